@@ -9,15 +9,15 @@ use Rattle.theory.specs.Says.{Says}
 use Rattle.theory.specs.Rule.{Sheet, Fits}
 use Rattle.engine.specs.declared.run.Run.{Run}
 use Rattle.table.specs.Layout.{Layout, Planned}
-use Rattle.engine.specs.Holds.{Holds, Settled}
-use Rattle.engine.specs.Plans.{layout}
+use Rattle.turns.specs.Holds.{Holds, Settled}
+use Rattle.table.specs.Views.{seen}
 use mathlib.Core.List.{_∷_}
 use Rattle.engine.specs.declared.calls.Call.{Call}
 use Rattle.engine.specs.declared.calls.Answer.{Answer}
 use Rattle.engine.specs.Law.{Past, horizonOf, settlesOf, stepsOf, Right}
 
 abbrev pub laid : {V : Type 0} → Run V → Layout
-laid run = layout (now (run .plan))
+laid run = seen (now (run .plan))
 
 -- The bounds that a run keeps.
 pub record Valid {V : Type 0} (run : Run V) : Type 0 where

@@ -6,7 +6,7 @@ ghost use mathlib.Core.List.{[]};
 ghost use lib.ListN.{length, set};
 ghost use Rattle.kind.specs.Kinds.{Meaning};
 ghost use Rattle.theory.specs.Says.{Says};
-ghost use Rattle.engine.specs.Plans.{layout};
+ghost use Rattle.table.specs.Views.{seen};
 ghost use Rattle.engine.specs.Law.{opened, settledBy, stepped, looked, restarted, AllRight};
 ghost use Rattle.engine.specs.Tells.{Valid, Tells, Lawful, Stays};
 use crate::calls::Answer;
@@ -115,7 +115,7 @@ pub fn replay<V: Kind, S: Source<V>>(
     answers: &mut [Answer<V>],
 )
     requires room { ⌜ length (now calls) ≤ length (now answers) ⌝ }
-    ensures { λ _. ⌜ AllRight (layout (now (plan .entry))) (V·Kind .meaning) (S·Source .meaning (now (source .entry)) .says) (length (now (cells .entry))) (now (calls .entry)) (now (answers .exit)) (length (now (calls .entry))) ⌝ }
+    ensures { λ _. ⌜ AllRight (seen (now (plan .entry))) (V·Kind .meaning) (S·Source .meaning (now (source .entry)) .says) (length (now (cells .entry))) (now (calls .entry)) (now (answers .exit)) (length (now (calls .entry))) ⌝ }
 {
     let mut run = Run::new(plan, cells);
     for i in 0..calls.len() {

@@ -4,13 +4,13 @@ use native.Mathlib.Omega.{arith}
 use borrow.Author.Needs.{needs}
 use lib.ListN.{length}
 use Rattle.table.specs.Layout.{placeAt}
-use Rattle.engine.specs.Holds.{slot}
+use Rattle.turns.specs.Holds.{slot}
 use mathlib.Core.List.{_∷_}
 use Rattle.engine.specs.declared.calls.Call.the-variants.{Look}
 use Rattle.engine.specs.declared.calls.Answer.the-variants.{Seen}
 use Rattle.engine.specs.Tells.{laid, Tells}
-use Rattle.engine.proofs.Slots.{slot-fits}
-use Rattle.engine.proofs.Agree.{one-at}
+use Rattle.turns.proofs.Slots.{slot-fits}
+use Rattle.turns.proofs.Agree.{one-at}
 use Rattle.engine.proofs.Lawful.{look-right, same-some}
 use Rattle.engine.proofs.run.Run.look.Needs as need
 

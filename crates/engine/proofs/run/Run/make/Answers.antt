@@ -6,7 +6,7 @@ use Rattle.engine.proofs.run.Run.make.Needs as need
 
 pub returns-in-Open : need.returns-in-Open
 returns-in-Open g c =
-    let says = g .S·Source .says (c .args .source .now) in
+    let says = g .S·Source .meaning (c .args .source .now) .says in
     record {
       valid = c .open .ensures .valid;
       stays = c .open .ensures .stays;
@@ -15,7 +15,7 @@ returns-in-Open g c =
 
 pub returns-in-Settle : need.returns-in-Settle
 returns-in-Settle g c =
-    let says = g .S·Source .says (c .args .source .now) in
+    let says = g .S·Source .meaning (c .args .source .now) .says in
     record {
       valid = c .settle .ensures .valid;
       stays = c .settle .ensures .stays;
@@ -24,7 +24,7 @@ returns-in-Settle g c =
 
 pub returns-in-Step : need.returns-in-Step
 returns-in-Step g c =
-    let says = g .S·Source .says (c .args .source .now) in
+    let says = g .S·Source .meaning (c .args .source .now) .says in
     record {
       valid = c .step .ensures .valid;
       stays = c .step .ensures .stays;
@@ -33,7 +33,7 @@ returns-in-Step g c =
 
 pub returns-in-Look : need.returns-in-Look
 returns-in-Look g c =
-    let says = g .S·Source .says (c .args .source .now) in
+    let says = g .S·Source .meaning (c .args .source .now) .says in
     let same = c .look .ensures .same in
     record {
       valid = subst Valid (sym same) (c .pre);
@@ -43,7 +43,7 @@ returns-in-Look g c =
 
 pub returns-in-Restart : need.returns-in-Restart
 returns-in-Restart g c =
-    let says = g .S·Source .says (c .args .source .now) in
+    let says = g .S·Source .meaning (c .args .source .now) .says in
     record {
       valid = c .restart .ensures .valid;
       stays = c .restart .ensures .stays;

@@ -4,7 +4,7 @@ use native.Mathlib.Omega.{arith}
 use borrow.Author.Needs.{needs}
 use lib.ListN.{length}
 use Rattle.theory.specs.Rule.{Fits}
-use Rattle.engine.specs.Holds.{Settled}
+use Rattle.turns.specs.Holds.{Settled}
 use Rattle.engine.specs.Tells.{laid}
 use Rattle.engine.proofs.Lawful.{settle-right, same-some}
 use Rattle.engine.proofs.run.Run.settle.Needs as need
@@ -13,7 +13,7 @@ pub returns : need.returns
 returns g c =
     let run = c .args .self .now in
     let k = g .V·Kind .meaning in
-    let says = g .S·Source .says (c .args .source .now) in
+    let says = g .S·Source .meaning (c .args .source .now) .says in
     let v = c .pre in
     let H = c .in-Some .horizon in
     let more : run .settled < laid run .stages = c .if-self-stages .left in

@@ -11,7 +11,7 @@ pub returns : need.returns
 returns g c =
     let run = c .args .self .now in
     let k = g .V·Kind .meaning in
-    let says = g .S·Source .says (c .args .source .now) in
+    let says = g .S·Source .meaning (c .args .source .now) .says in
     let v = c .pre in
     let done : laid run .stages ≤ run .settled = c .if-self .left in
     let more : run .made < c .in-Some .horizon = c .if-tick-horizon .left in

@@ -1,6 +1,7 @@
 //! What the engine asks of a kind of values.
 
 ghost use mathlib.Core.Path.{_≡_};
+ghost use Prim.Native.Nat.{min};
 ghost use Rattle.kind.specs.Kinds.{Meaning};
 use reading::Arithmetic;
 use reading::KindFault;
@@ -32,4 +33,14 @@ pub trait Kind: Copy {
     /// The value that eight bytes stand for.
     fn word(bytes: [u8; 8]) -> Option<Self>
         ensures { λ r. ⌜ r ≡ meaning .word bytes ⌝ };
+}
+
+/// The greatest literal of a text.
+const GREATEST: u32 = 2147483647;
+
+/// A literal, kept to the greatest that a text can have.
+pub(crate) fn capped(n: u32) -> u32
+    ensures { λ r. ⌜ r ≡ min n 2147483647 ⌝ }
+{
+    if n < GREATEST { n } else { GREATEST }
 }

@@ -3,9 +3,11 @@
 ghost use mathlib.Core.Path.{_≡_};
 ghost use lib.Dec.{T};
 ghost use lib.Ieee as Ieee;
+ghost use Rattle.std.specs.Floats.{finite};
 ghost use Rattle.kind.specs.Rates.{rates, packed, unpacked, calculated, holds, alike};
 use crate::finite::Finite;
 use crate::kinds::Kind;
+use crate::kinds::capped;
 use reading::Arithmetic;
 use reading::KindFault;
 use reading::Relation;
@@ -42,6 +44,13 @@ fn pack(x: f64) -> Result<Rate, KindFault>
     } else {
         Err(KindFault::OutOfRange)
     }
+}
+
+/// Whether the bits are those of a finite number.
+fn is_number(bits: u64) -> bool
+    ensures { λ r. ⌜ r ≡ finite (Ieee.ofBits Ieee.binary64 bits) ⌝ }
+{
+    f64_from_bits_with_nan(bits).is_finite()
 }
 
 fn calculate(op: Arithmetic, a: f64, b: f64) -> Result<Rate, KindFault>
@@ -84,7 +93,7 @@ pub impl Kind for Rate as RateKind {
 
     fn literal(n: u32) -> Rate {
         Rate::Number(Finite {
-            bits: (n.min(2147483647) as f64).to_bits(),
+            bits: (capped(n) as f64).to_bits(),
         })
     }
 
@@ -123,7 +132,7 @@ pub impl Kind for Rate as RateKind {
 
     fn word(bytes: [u8; 8]) -> Option<Rate> {
         let bits = u64::from_be_bytes(bytes);
-        if f64_from_bits_with_nan(bits).is_finite() {
+        if is_number(bits) {
             Some(Rate::Number(Finite { bits }))
         } else {
             None

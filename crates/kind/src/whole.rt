@@ -5,9 +5,10 @@ ghost use lib.IntN.{ℤ};
 ghost use mir.Syntax.{w32};
 ghost use mir.Val.{SFits};
 ghost use Rattle.std.specs.Numbers.{Checked};
-ghost use Rattle.kind.specs.Wholes.{wholes, fitted, calculated, holds, alike};
+ghost use Rattle.kind.specs.Wholes.{wholes, within, fitted, calculated, holds, alike};
 use crate::bounded::Integer;
 use crate::kinds::Kind;
+use crate::kinds::capped;
 use reading::Arithmetic;
 use reading::KindFault;
 use reading::Relation;
@@ -30,6 +31,13 @@ fn fit(n: Option<i32>) -> Result<Whole, KindFault>
         Some(value) if value != i32::MIN => Ok(Whole::Number(Integer { value })),
         _ => Err(KindFault::OutOfRange),
     }
+}
+
+/// Whether an integer is a whole number of the kind.
+fn is_near(n: i64) -> bool
+    ensures { λ r. ⌜ r ≡ within n ⌝ }
+{
+    n.unsigned_abs() <= LIMIT
 }
 
 fn calculate(op: Arithmetic, a: i32, b: i32) -> Result<Whole, KindFault>
@@ -72,7 +80,7 @@ pub impl Kind for Whole as WholeKind {
 
     fn literal(n: u32) -> Whole {
         Whole::Number(Integer {
-            value: n.min(2147483647) as i32,
+            value: capped(n) as i32,
         })
     }
 
@@ -119,7 +127,7 @@ pub impl Kind for Whole as WholeKind {
 
     fn word(bytes: [u8; 8]) -> Option<Whole> {
         let n = i64::from_be_bytes(bytes);
-        if n.unsigned_abs() <= LIMIT {
+        if is_near(n) {
             Some(Whole::Number(Integer { value: n as i32 }))
         } else {
             None

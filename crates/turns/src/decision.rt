@@ -5,6 +5,7 @@ ghost use mathlib.Core.Bool.{true, false, not};
 ghost use Rattle.reading.specs.Faults.{ofKind, ofSource};
 ghost use Rattle.theory.specs.Rule.{is, answered, born};
 ghost use Rattle.turns.specs.Reads.{decided};
+use kind::Kind;
 use reading::Fault;
 use reading::FaultNumber;
 use reading::FromKindFault;
@@ -13,10 +14,9 @@ use reading::KindFault;
 use reading::Reading;
 use reading::Row;
 use reading::SourceFault;
-use kind::Kind;
 
 /// Whether a reading is the truth value `b`.
-pub fn is<V: Kind>(b: bool, reading: &Reading<V>) -> bool
+pub(crate) fn is<V: Kind>(b: bool, reading: &Reading<V>) -> bool
     ensures { λ r. ⌜ r ≡ is (V·Kind .meaning) b (now (reading .entry)) ⌝ }
 {
     match reading {
@@ -29,14 +29,14 @@ pub fn is<V: Kind>(b: bool, reading: &Reading<V>) -> bool
 }
 
 /// A fault that is born in a row at a tick.
-pub fn fault<V>(number: FaultNumber, row: u8, tick: u32) -> Reading<V>
+pub(crate) fn fault<V>(number: FaultNumber, row: u8, tick: u32) -> Reading<V>
     ensures { λ r. ⌜ r ≡ born number row tick ⌝ }
 {
     Reading::Fault(Fault { number, row, tick })
 }
 
 /// What the kind answers, in a row at a tick.
-pub fn computed<V: Kind>(answer: Result<V, KindFault>, row: u8, tick: u32) -> Reading<V>
+pub(crate) fn computed<V: Kind>(answer: Result<V, KindFault>, row: u8, tick: u32) -> Reading<V>
     ensures { λ r. ⌜ r ≡ answered ofKind answer row tick ⌝ }
 {
     match answer {
@@ -46,7 +46,7 @@ pub fn computed<V: Kind>(answer: Result<V, KindFault>, row: u8, tick: u32) -> Re
 }
 
 /// What the source says, in a row at a tick.
-pub fn heard<V: Kind>(said: Result<V, SourceFault>, row: u8, tick: u32) -> Reading<V>
+pub(crate) fn heard<V: Kind>(said: Result<V, SourceFault>, row: u8, tick: u32) -> Reading<V>
     ensures { λ r. ⌜ r ≡ answered ofSource said row tick ⌝ }
 {
     match said {
@@ -95,8 +95,16 @@ pub fn decide<V: Kind>(
         (_, _, Reading::Fault(f)) => Reading::Fault(*f),
         (Row::And(_, _), _, _) if is(true, a) && is(true, b) => Reading::Value(V::truth(true)),
         (Row::Or(_, _), _, _) if is(false, a) && is(false, b) => Reading::Value(V::truth(false)),
-        (Row::Compute(op, _, _), Reading::Value(v), Reading::Value(w)) => computed(V::compute(op, *v, *w), r, t),
-        (Row::Relate(op, _, _), Reading::Value(v), Reading::Value(w)) => computed(V::relate(op, *v, *w), r, t),
+        (Row::Compute(op, _, _), Reading::Value(v), Reading::Value(w)) => computed(
+            V::compute(op, *v, *w),
+            r,
+            t,
+        ),
+        (Row::Relate(op, _, _), Reading::Value(v), Reading::Value(w)) => computed(
+            V::relate(op, *v, *w),
+            r,
+            t,
+        ),
         (Row::And(_, _) | Row::Or(_, _), _, _) => fault(FaultNumber::WrongKind, r, t),
     }
 }

@@ -11,17 +11,17 @@ ghost use Rattle.turns.specs.Holds.{At, slot, Holds, Settled, Kept};
 ghost use Rattle.turns.specs.Reads.{Has, Left, Right, Third, Within, Ready};
 use crate::decision::decide;
 use crate::decision::heard;
+use kind::Kind;
+use reading::Reading;
+use reading::Row;
+use source::Source;
 use table::Place;
 use table::View;
 use window::Window;
 use window::slot;
-use reading::Reading;
-use reading::Row;
-use source::Source;
-use kind::Kind;
 
 /// The reading of row `x` at tick `t`, from the row's window.
-pub fn fetch<V: Kind>(plan: &View<'_>, cells: &[Reading<V>], x: u8, t: u32) -> Reading<V>
+pub(crate) fn fetch<V: Kind>(plan: &View<'_>, cells: &[Reading<V>], x: u8, t: u32) -> Reading<V>
     requires planned { ⌜ Planned (seen (now plan)) ⌝ }
     requires room { ⌜ now plan .size ≤ length (now cells) ⌝ }
     requires row { ⌜ x < length (now (now plan .rows)) ⌝ }
@@ -138,7 +138,7 @@ fn keep<V: Kind>(place: &Place, cells: &mut [Reading<V>], t: u32, reading: Readi
 }
 
 /// Makes the rows up to a stage at their ticks of one turn.
-pub fn turn<V: Kind, S: Source<V>>(
+pub(crate) fn turn<V: Kind, S: Source<V>>(
     plan: &View<'_>,
     source: &S,
     cells: &mut [Reading<V>],
@@ -163,7 +163,7 @@ pub fn turn<V: Kind, S: Source<V>>(
 }
 
 /// Makes the turns from 0 to before `count`, over the rows up to a stage.
-pub fn turns<V: Kind, S: Source<V>>(
+pub(crate) fn turns<V: Kind, S: Source<V>>(
     plan: &View<'_>,
     source: &S,
     cells: &mut [Reading<V>],

@@ -1,0 +1,3 @@
+pub mod Chain
+mod Hex
+mod Signs

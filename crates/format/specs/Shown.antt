@@ -1,10 +1,10 @@
 -- What is printed of values, faults and readings, and the lines of a list.
 use mathlib.Core.Bool.{Bool, cond}
-use mathlib.Core.List.{List, _++_}
+use mathlib.Core.List.{List, [], _∷_, _++_}
 use Prim.Native.Nat.{ℕ}
 use lib.Chars.{codes}
 use Rattle.std.specs.Written.{decimal, signed}
-use Rattle.text.specs.Fields.{fieldText}
+use Rattle.text.specs.Fields.{fieldsText}
 use Rattle.text.specs.Hexadecimal.{bitsText}
 use Rattle.reading.specs.Faults.{numberOf}
 use Rattle.reading.specs.declared.faults.Fault.{Fault}
@@ -33,8 +33,11 @@ rateText (Rates.Number n) = bitsText (n .bits)
 rateText (Rates.Truth b) = truthText b
 
 -- A fault by its number and birth, as `fault 1 row 1 tick 0`.
-unfoldable pub faultText : Fault → List ℕ
-faultText f = fieldText (codes "fault ") (numberOf (f .number)) ++ (fieldText (codes " row ") (f .row) ++ fieldText (codes " tick ") (f .tick))
+abbrev pub faultFields : Fault → List (List ℕ × ℕ)
+faultFields f = (codes "fault ", numberOf (f .number)) ∷ (codes " row ", f .row) ∷ (codes " tick ", f .tick) ∷ []
+
+abbrev pub faultText : Fault → List ℕ
+faultText f = fieldsText (faultFields f)
 
 -- A reading, by what is printed of a value.
 abbrev pub readingText : {V : Type 0} → (V → List ℕ) → Reading V → List ℕ
@@ -46,11 +49,15 @@ unfoldable pub lineText : {V : Type 0} → (V → List ℕ) → Line V → List 
 lineText text l = decimal (l .tick) ++ (codes " " ++ (readingText text (l .reading) ++ codes "\n"))
 
 -- The first line, as `rows 9 stages 1 lead 0 cells 11`.
-unfoldable pub headingText : Heading → List ℕ
-headingText h =
-    fieldText (codes "rows ") (h .rows) ++
-    (fieldText (codes " stages ") (h .stages) ++ (fieldText (codes " lead ") (h .lead) ++ (fieldText (codes " cells ") (h .cells) ++ codes "\n")))
+abbrev pub headingFields : Heading → List (List ℕ × ℕ)
+headingFields h = (codes "rows ", h .rows) ∷ (codes " stages ", h .stages) ∷ (codes " lead ", h .lead) ∷ (codes " cells ", h .cells) ∷ []
+
+abbrev pub headingText : Heading → List ℕ
+headingText h = fieldsText (headingFields h) ++ codes "\n"
 
 -- The line of a refusal, as `refused 3 at 0`.
-unfoldable pub refusedText : Refused → List ℕ
-refusedText r = fieldText (codes "refused ") (r .number) ++ (fieldText (codes " at ") (r .place) ++ codes "\n")
+abbrev pub refusedFields : Refused → List (List ℕ × ℕ)
+refusedFields r = (codes "refused ", r .number) ∷ (codes " at ", r .place) ∷ []
+
+abbrev pub refusedText : Refused → List ℕ
+refusedText r = fieldsText (refusedFields r) ++ codes "\n"

@@ -1,11 +1,13 @@
 //! The lines of a list.
 
-ghost use Rattle.text.specs.Pushed.{Pushed};
-ghost use Rattle.format.specs.Shown.{headingText, lineText, refusedText};
+ghost use mathlib.Core.Path.{_≡_};
+ghost use Rattle.text.specs.Fields.{labelled};
+ghost use Rattle.format.specs.Shown.{headingFields, headingText, lineText, refusedFields, refusedText};
 use crate::values::ReadingShown;
 use crate::values::Shown;
 use reading::Reading;
 use reading::ReadingClone;
+use text::Field;
 use text::Text;
 
 /// The first line of a list: how large a table is, and how a run of it is laid out.
@@ -17,15 +19,36 @@ pub struct Heading {
     pub cells: usize,
 }
 
+impl Heading {
+    fn fields(&self) -> [Field<'static>; 4]
+        ensures { λ r. ⌜ labelled r ≡ headingFields (now (self .entry)) ⌝ }
+    {
+        [
+            Field {
+                words: "rows ",
+                value: self.rows as u64,
+            },
+            Field {
+                words: " stages ",
+                value: self.stages as u64,
+            },
+            Field {
+                words: " lead ",
+                value: self.lead as u64,
+            },
+            Field {
+                words: " cells ",
+                value: self.cells as u64,
+            },
+        ]
+    }
+}
+
 pub impl Shown for Heading as HeadingShown {
     ghost text = { headingText };
 
     fn push_to(&self, out: &mut Text) {
-        out.push_field("rows ", self.rows as u64);
-        out.push_field(" stages ", self.stages as u64);
-        out.push_field(" lead ", self.lead as u64);
-        out.push_field(" cells ", self.cells as u64);
-        out.push_str("\n");
+        out.push_line(&self.fields());
     }
 }
 
@@ -54,12 +77,27 @@ pub struct Refused {
     pub place: usize,
 }
 
+impl Refused {
+    fn fields(&self) -> [Field<'static>; 2]
+        ensures { λ r. ⌜ labelled r ≡ refusedFields (now (self .entry)) ⌝ }
+    {
+        [
+            Field {
+                words: "refused ",
+                value: self.number as u64,
+            },
+            Field {
+                words: " at ",
+                value: self.place as u64,
+            },
+        ]
+    }
+}
+
 pub impl Shown for Refused as RefusedShown {
     ghost text = { refusedText };
 
     fn push_to(&self, out: &mut Text) {
-        out.push_field("refused ", self.number as u64);
-        out.push_field(" at ", self.place as u64);
-        out.push_str("\n");
+        out.push_line(&self.fields());
     }
 }

@@ -2,12 +2,15 @@
 
 ghost use mathlib.Core.List.{List};
 ghost use Prim.Native.Nat.{ℕ};
+ghost use mathlib.Core.Path.{_≡_};
+ghost use Rattle.text.specs.Fields.{labelled};
 ghost use Rattle.text.specs.Pushed.{Pushed};
-ghost use Rattle.format.specs.Shown.{truthText, wholeText, rateText, faultText, readingText};
+ghost use Rattle.format.specs.Shown.{truthText, wholeText, rateText, faultFields, faultText, readingText};
 use kind::Rate;
 use kind::Whole;
 use reading::Fault;
 use reading::Reading;
+use text::Field;
 use text::Text;
 
 /// What is printed of a value. `text` gives its bytes, and they are what is appended.
@@ -48,13 +51,30 @@ pub impl Shown for Rate as RateShown {
     }
 }
 
+fn fault_fields(fault: &Fault) -> [Field<'static>; 3]
+    ensures { λ r. ⌜ labelled r ≡ faultFields (now (fault .entry)) ⌝ }
+{
+    [
+        Field {
+            words: "fault ",
+            value: fault.number.number() as u64,
+        },
+        Field {
+            words: " row ",
+            value: fault.row as u64,
+        },
+        Field {
+            words: " tick ",
+            value: fault.tick as u64,
+        },
+    ]
+}
+
 pub impl Shown for Fault as FaultShown {
     ghost text = { faultText };
 
     fn push_to(&self, out: &mut Text) {
-        out.push_field("fault ", self.number.number() as u64);
-        out.push_field(" row ", self.row as u64);
-        out.push_field(" tick ", self.tick as u64);
+        out.push_fields(&fault_fields(self));
     }
 }
 

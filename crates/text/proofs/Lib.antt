@@ -1,3 +1,4 @@
 pub mod Chain
 mod Hex
+mod Labels
 mod Signs

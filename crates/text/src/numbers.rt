@@ -6,7 +6,6 @@ ghost use Prim.Native.Nat.{_+_, _<_};
 ghost use lib.IntN.{pos};
 ghost use lib.Signed.{ltZ};
 ghost use Rattle.std.specs.Written.{decimal, sign, signed};
-ghost use Rattle.text.specs.Fields.{fieldText};
 ghost use Rattle.text.specs.Hexadecimal.{hexDigit, hexText, bitsText};
 ghost use Rattle.text.specs.Pushed.{Pushed};
 use crate::text::Text;
@@ -46,14 +45,6 @@ impl Text {
         }
         self.push_decimal(n / 10);
         self.push_digit((n % 10) as u8);
-    }
-
-    /// Appends words, and then a number in decimal.
-    pub fn push_field(&mut self, words: &str, n: u64)
-        ensures { λ _. ⌜ Pushed (now (self .entry)) (now (self .exit)) (fieldText (now (words .entry)) n) ⌝ }
-    {
-        self.push_str(words);
-        self.push_decimal(n);
     }
 
     /// Appends a number in decimal, with a minus sign below 0.

@@ -24,22 +24,10 @@ impl Heading {
         ensures { λ r. ⌜ labelled r ≡ headingFields (now (self .entry)) ⌝ }
     {
         [
-            Field {
-                words: "rows ",
-                value: self.rows as u64,
-            },
-            Field {
-                words: " stages ",
-                value: self.stages as u64,
-            },
-            Field {
-                words: " lead ",
-                value: self.lead as u64,
-            },
-            Field {
-                words: " cells ",
-                value: self.cells as u64,
-            },
+            Field::new("rows ", self.rows as u64),
+            Field::new(" stages ", self.stages as u64),
+            Field::new(" lead ", self.lead as u64),
+            Field::new(" cells ", self.cells as u64),
         ]
     }
 }
@@ -82,14 +70,8 @@ impl Refused {
         ensures { λ r. ⌜ labelled r ≡ refusedFields (now (self .entry)) ⌝ }
     {
         [
-            Field {
-                words: "refused ",
-                value: self.number as u64,
-            },
-            Field {
-                words: " at ",
-                value: self.place as u64,
-            },
+            Field::new("refused ", self.number as u64),
+            Field::new(" at ", self.place as u64),
         ]
     }
 }

@@ -55,18 +55,9 @@ fn fault_fields(fault: &Fault) -> [Field<'static>; 3]
     ensures { λ r. ⌜ labelled r ≡ faultFields (now (fault .entry)) ⌝ }
 {
     [
-        Field {
-            words: "fault ",
-            value: fault.number.number() as u64,
-        },
-        Field {
-            words: " row ",
-            value: fault.row as u64,
-        },
-        Field {
-            words: " tick ",
-            value: fault.tick as u64,
-        },
+        Field::new("fault ", fault.number.number() as u64),
+        Field::new(" row ", fault.row as u64),
+        Field::new(" tick ", fault.tick as u64),
     ]
 }
 

@@ -1,5 +1,6 @@
 //! Words and numbers by turns.
 
+ghost use mathlib.Core.Path.{_≡_};
 ghost use mathlib.Core.List.{_++_};
 ghost use lib.Chars.{codes};
 ghost use Rattle.text.specs.Fields.{fieldsText, labelled};
@@ -11,6 +12,15 @@ use crate::text::Text;
 pub struct Field<'a> {
     pub words: &'a str,
     pub value: u64,
+}
+
+impl<'a> Field<'a> {
+    /// The field of these words and this number.
+    pub fn new(words: &'a str, value: u64) -> Field<'a>
+        ensures { λ r. ⌜ r ≡ record { words = words .entry; value = value } ⌝ }
+    {
+        Field { words, value }
+    }
 }
 
 impl Text {

@@ -1,0 +1,3 @@
+mod Going
+mod Lines
+mod Reporting

@@ -841,14 +841,21 @@ def run_cases(path):
 
 def deep(work, *arguments):
     """Do work with room for deeply nested expressions; answer what it answers."""
-    outcome = []
+    outcome, failure = [], []
+
+    def guarded():
+        try:
+            outcome.append(work(*arguments))
+        except BaseException as reason:  # handed on to the caller's thread below
+            failure.append(reason)
+
     sys.setrecursionlimit(200000)
     threading.stack_size(512 * 1024 * 1024)
-    thread = threading.Thread(target=lambda: outcome.append(work(*arguments)))
+    thread = threading.Thread(target=guarded)
     thread.start()
     thread.join()
-    if not outcome:
-        sys.exit(1)
+    if failure:
+        raise failure[0]
     return outcome[0]
 
 

@@ -10,12 +10,15 @@
 4. Rounds of the least solution: each value of a round is the demand
    evaluator's reading.
 
+5. Arithmetic of rates, by exact fractions rounded once.
+
 Seeded, so that every run checks the same tables.
 """
 
 import random
 import struct
 import sys
+from fractions import Fraction
 
 import reference
 from reference import INFINITE, Bad, Fault, Row, Sheet, Table
@@ -428,12 +431,47 @@ def check_rounds(dice, count):
     return compared
 
 
+# ------------------------------------------------------------------- rates
+
+
+def random_rate(dice, near=None):
+    """A finite rate of any exponent, or of one near another's."""
+    exponent = dice.randrange(0, 2047) if near is None else min(2046, max(0, near + dice.randrange(-55, 56)))
+    if dice.random() < 0.1:
+        exponent = dice.choice([0, 0, 1, 2046, 1023])
+    fraction = dice.choice([dice.getrandbits(52), dice.getrandbits(52), 0, 2**52 - 1, 2**51, 1])
+    bits = dice.getrandbits(1) << 63 | exponent << 52 | fraction
+    return struct.unpack(">d", struct.pack(">Q", bits))[0], exponent
+
+
+def check_rates(dice, count):
+    kind = reference.KINDS[1]
+    for _ in range(count):
+        a, exponent = random_rate(dice)
+        b, _ = random_rate(dice, None if dice.random() < 0.3 else exponent)
+        op = dice.choice("+-*/")
+        found = kind.answer(op, [a, b])
+        if op == "/" and b == 0:
+            wanted = Bad(reference.ZERO_DIVISOR)
+        else:
+            x, y = Fraction(a), Fraction(b)
+            exact = {"+": x + y, "-": x - y, "*": x * y, "/": x / (y or 1)}[op]
+            try:
+                wanted = float(exact)
+            except OverflowError:
+                wanted = Bad(reference.OUT_OF_RANGE)
+        if found != wanted:
+            fail("%r %s %r: %r, not %r" % (a, op, b, found, wanted))
+    return count
+
+
 def main():
     dice = random.Random(4711)
     print("selfcheck: %d tables by hand" % check_by_hand())
     print("selfcheck: leads and stages of %d of 6000 tables by paths, and all rings" % check_paths(dice, 6000))
     print("selfcheck: %d readings of 4000 tables by windows" % check_loop(dice, 4000))
     print("selfcheck: %d values of 600 tables by rounds" % check_rounds(dice, 600))
+    print("selfcheck: %d operations on rates by fractions" % check_rates(dice, 40000))
 
 
 if __name__ == "__main__":

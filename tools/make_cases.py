@@ -782,9 +782,11 @@ def channels():
 class Maker:
     """Random expressions, by sort of value, with as few brackets as the levels ask for."""
 
-    def __init__(self, dice, names):
+    def __init__(self, dice, sorts, channels):
+        """sorts: for each name whether its equation is to read truth values."""
         self.dice = dice
-        self.names = names
+        self.sorts = sorts
+        self.channels = channels
 
     def expression(self, level, depth, truth):
         """An expression that may stand where this level is asked for."""
@@ -822,11 +824,15 @@ class Maker:
 
     def atom(self, truth):
         dice = self.dice
-        if dice.random() < 0.45:
-            return dice.choice(self.names)
+        names = [name for name, its in self.sorts.items() if its == truth]
+        if names and dice.random() < 0.5:
+            return dice.choice(names)
         if truth:
-            return dice.choice(["true", "false", "true", "false", "(input gt 1)", "(input lt 3)"])
-        return dice.choice(["input", "input", "input1", "input2", str(dice.randrange(6)), str(dice.randrange(6))])
+            return dice.choice(["true", "false", "(input gt 1)", "(input lt 3)", "(input1 ne 2)"])
+        if dice.random() < 0.4:
+            return str(dice.randrange(6))
+        channel = dice.randrange(self.channels + (dice.random() < 0.1))
+        return "input%d" % channel if channel else "input"
 
 
 def dress(dice, text):
@@ -840,15 +846,15 @@ def dress(dice, text):
     return "".join(out)
 
 
-def random_text(dice):
+def random_text(dice, channels=2):
     names = ["result"] + dice.sample(["a", "b", "c", "sum", "n1", "k2k", "speed", "load"], dice.randrange(0, 5))
-    maker = Maker(dice, names)
+    sorts = {name: dice.random() < 0.3 for name in names}
+    maker = Maker(dice, sorts, channels)
     body = []
     for name in dice.sample(names, len(names)):
-        truth = dice.random() < 0.25
-        words = maker.expression(1, dice.randrange(1, 5), truth)
+        words = maker.expression(1, dice.randrange(1, 5), sorts[name])
         if dice.random() < 0.35:
-            words = maker.atom(truth) + " fby " + words
+            words = maker.expression(2, 0, sorts[name]) + " fby " + words
         body.append(name + " = " + words)
     return dress(dice, wrap("; ".join(body)))
 
@@ -869,7 +875,8 @@ def random_cases(accepted, ringed):
     dice = random.Random(19760804)
     have, refused = 0, 0
     while have < accepted or refused < ringed:
-        text, data = random_text(dice).encode(), random_recording(dice)
+        data = random_recording(dice)
+        text = random_text(dice, data[1]).encode()
         lines = reference.listing(text, data)
         if lines == ["refused 9 at 0"] and refused < ringed:
             refused += 1
@@ -880,10 +887,10 @@ def random_cases(accepted, ringed):
 
 
 def interesting(dice, lines):
+    """Keep lists with differing readings and stages more often than others."""
     stages = int(lines[0].split()[3])
-    varied = len({line.partition(" ")[2] for line in lines[1:]}) > 1
-    values = any("fault" not in line for line in lines[1:])
-    return dice.random() < 0.05 + 0.35 * varied + 0.3 * values + 0.3 * (stages > 0)
+    varied = len({line.partition(" ")[2] for line in lines[1:]})
+    return dice.random() < 0.04 + 0.2 * min(varied - 1, 3) + 0.2 * (stages > 0)
 
 
 def random_words(count):

@@ -304,8 +304,8 @@ def deep():
     result("if_nest_cond180", "if " * 180 + "true" + " then 1 else 2" * 180)
     result("if_nest_else200", "if true then 1 else " * 200 + "2")
     result("if_nest_then150", "if true then " * 150 + "1" + " else 2" * 150)
-    result("fby700", "1 fby " * 670 + "1")
-    result("or600", "true or " * 500 + "true")
+    result("fby700", "1fby " * 700 + "1")
+    result("or500", "true or " * 500 + "true")
     result("plus1900", "1+" * 1900 + "1")
 
 

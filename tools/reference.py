@@ -850,7 +850,7 @@ def deep(work, *arguments):
             failure.append(reason)
 
     sys.setrecursionlimit(200000)
-    threading.stack_size(512 * 1024 * 1024)
+    threading.stack_size(128 * 1024 * 1024)
     thread = threading.Thread(target=guarded)
     thread.start()
     thread.join()

@@ -10,7 +10,9 @@
 4. Rounds of the least solution: each value of a round is the demand
    evaluator's reading.
 
-5. Arithmetic of rates, by exact fractions rounded once.
+5. Fitting: each reading of the demand evaluator is what a second writing of
+   the rules, with faults and births, takes from the other readings.
+6. Arithmetic of rates, by exact fractions rounded once.
 
 Seeded, so that every run checks the same tables.
 """
@@ -67,6 +69,10 @@ BY_HAND = [
     ("result = false and 1 / 0 eq 1", [], 1, [False], (7, 0, 0, 7)),
     ("result = 7 / (0 - 2)", [], 1, [-3], (5, 0, 0, 5)),
     ("result = 0 fby first result", [], 3, [0, 0, 0], None),
+    ("result = input asa (if input lt 3 then false else 7)", [1, 2, 3, 4], 4, [Fault(4, 0, 2)] * 4, None),
+    ("result = 10 / (input - 3) asa input eq 3", [1, 2, 3], 3, [Fault(5, 5, 2)] * 3, None),
+    ("result = 1 + true or 1 / 0 eq 1", [], 1, [Fault(4, 3, 0)], None),
+    ("result = first next input", [4, None, 5], 3, [Fault(3, 1, 1)] * 3, None),
 ]
 
 
@@ -431,6 +437,69 @@ def check_rounds(dice, count):
     return compared
 
 
+# ----------------------------------------------------------------- fitting
+
+
+def fitting(sheet, row, tick):
+    """What the rule of a row takes from the readings of a sheet."""
+    op, operands, what = sheet.table.rows[row]
+    kind = sheet.kind
+    here = lambda answer: Fault(answer.number, row, tick) if isinstance(answer, Bad) else answer
+    if op == "asa":
+        left, right = operands
+        stops = [s for s in range(sheet.horizon) if sheet.at(right, s) is not False]
+        if not stops:
+            return Fault(1, row, 0)
+        condition = sheet.at(right, stops[0])
+        if isinstance(condition, Fault):
+            return condition
+        return sheet.at(left, stops[0]) if condition is True else Fault(4, row, stops[0])
+    if op in ("first", "next", "fby"):
+        return {
+            "first": lambda: sheet.at(operands[0], 0),
+            "next": lambda: sheet.at(operands[0], tick + 1),
+            "fby": lambda: sheet.at(operands[0], 0) if tick == 0 else sheet.at(operands[1], tick - 1),
+        }[op]()
+    read = [sheet.at(operand, tick) for operand in operands]
+    faults = [reading for reading in read if isinstance(reading, Fault)]
+    if op == "and" and any(reading is False for reading in read):
+        return False
+    if op == "or" and any(reading is True for reading in read):
+        return True
+    if op == "if":
+        if isinstance(read[0], Fault):
+            return read[0]
+        return read[1] if read[0] is True else read[2] if read[0] is False else Fault(4, row, tick)
+    if faults:
+        return faults[0]
+    if op in ("and", "or", "not"):
+        if not all(reading is True or reading is False for reading in read):
+            return Fault(4, row, tick)
+        return {"and": True, "or": False, "not": not read[0]}[op]
+    if op == "copy":
+        return read[0]
+    if op == "channel":
+        return here(sheet.source.read(what, tick))
+    if op in ("literal", "truth"):
+        return kind.literal(what) if op == "literal" else what
+    return here(kind.answer(op, read))
+
+
+def check_fitting(dice, count):
+    fitted = 0
+    for _ in range(count):
+        table = accepted_table(dice, 14)
+        kind = reference.KINDS[dice.randrange(2)]
+        horizon = dice.randrange(1, 9)
+        sheet = Sheet(table, kind, random_source(dice, kind, horizon + dice.randrange(-1, 3)), horizon)
+        for row in range(len(table.rows)):
+            for tick in range(horizon + 3):
+                fitted += 1
+                if repr(sheet.at(row, tick)) != repr(fitting(sheet, row, tick)):
+                    fail("row %d at tick %d does not fit: %r" % (row, tick, table.rows))
+    return fitted
+
+
 # ------------------------------------------------------------------- rates
 
 
@@ -471,6 +540,7 @@ def main():
     print("selfcheck: leads and stages of %d of 6000 tables by paths, and all rings" % check_paths(dice, 6000))
     print("selfcheck: %d readings of 4000 tables by windows" % check_loop(dice, 4000))
     print("selfcheck: %d values of 600 tables by rounds" % check_rounds(dice, 600))
+    print("selfcheck: %d readings of 1500 tables fit" % check_fitting(dice, 1500))
     print("selfcheck: %d operations on rates by fractions" % check_rates(dice, 40000))
 
 

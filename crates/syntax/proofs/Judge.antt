@@ -200,10 +200,6 @@ pub kept-all : {A : Type 0} (d c : ℕ) (r : Result A Refusal) → c ≡ d → K
 kept-all d c (Ok u) e = e
 kept-all d c (Err r) e = tt
 
-pub moved-more : {A : Type 0} (n n′ p p′ q : ℕ) (r : Result A Refusal) → n′ ≡ n → p ≤ p′ → Moved n′ p′ q r → Moved n p q r
-moved-more n n′ p p′ q (Ok u) e l h = (omega arith, omega arith)
-moved-more n n′ p p′ q (Err r) e l h = tt
-
 pub moved-another : (bs bs′ : List ℕ) (p q : ℕ) (r : Result Bool Refusal) → bs′ ≡ bs → Another-read bs′ p q r → Another-read bs p q r
 moved-another bs bs′ p q r e h = subst (λ b. Another-read b p q r) e h
 
@@ -228,6 +224,5 @@ pub last-ended : (bs bs′ : List ℕ) (q : ℕ) (b : Bool) → bs′ ≡ bs →
 last-ended bs bs′ q false e t h = moved-ended e h
 last-ended bs bs′ q true e t h = absurd (let z : _≡_ {A = ℕ} 0 1 = cc in omega arith)
 
-pub finish-judged : {A : Type 0} (bs bs′ : List ℕ) (r : Result A Refusal) → bs′ ≡ bs → length bs ≤ longest-text → Finish-read bs′ r → Judged bs r
-finish-judged bs bs′ (Ok u) e l h = (l, subst (λ b. Accepted b) e h)
-finish-judged bs bs′ (Err r) e l h = at-word l (moved-refused e h)
+pub moved-accepted : {bs bs′ : List ℕ} → bs′ ≡ bs → Accepted bs′ → Accepted bs
+moved-accepted e h = subst (λ b. Accepted b) e h

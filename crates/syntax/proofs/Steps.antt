@@ -25,11 +25,14 @@ use Rattle.grammar.specs.Machine.{Frame, group, operand, right, test, branch, o
 use Rattle.std.proofs.shelf.Tests.{le-leb, lt-leb, cond-true, cond-false}
 use Prim.Native.Nat.{_-_}
 use Rattle.lexer.specs.declared.lexer.Next.the-variants.{Word, Finish, Bad}
+use Rattle.std.specs.declared.result.Result.{Result}
+use Rattle.std.specs.declared.result.Result.the-variants.{Ok, Err}
+use Rattle.syntax.specs.declared.reader.Part.{Part}
 use Rattle.syntax.specs.declared.refusal.Refusal.{Refusal}
 use Rattle.syntax.specs.declared.refusal.Refusal.the-variants.{NoWord, Unexpected, TooDeep}
 use Rattle.lexer.specs.Lexer.{skip, scan}
 use Rattle.grammar.specs.Machine.{as-prefix}
-use Rattle.syntax.specs.Reading.{opened-by, opened, limit, Lies, Halt, bad, over, Missing, halted, other-word, Expression, Whole, Stuck, no-word, no-such, too-deep, Broken}
+use Rattle.syntax.specs.Reading.{opened-by, opened, limit, Lies, Halt, bad, over, Missing, halted, other-word, Expression, Whole, Stuck, no-word, no-such, too-deep, Broken, Begins, Operand-read, Moved, Kept}
 use Rattle.grammar.proofs.Parts.{some-is, none-some, refit, Taken, taken}
 use Rattle.grammar.proofs.Complete.{fits-level, mark-stops, along, run-append, takes-op, left-stops, begins, left-fits, infix-left}
 
@@ -286,14 +289,6 @@ no-mark-begins n Semicolon fs o i = refl
 pub no-if-begins : (n : ℕ) (fs : List Frame) → 3 < n → begin fs n (word.Mark If) ≡ None
 no-if-begins n fs h = cond-false _ _ _ (lt-leb n 3 h)
 
-abbrev pub Begins : Token → Type 0
-Begins (word.Atom a) = ⊥
-Begins (word.Infix op) = Unit {0}
-Begins word.First = Unit {0}
-Begins word.Next = Unit {0}
-Begins word.Not = Unit {0}
-Begins (word.Mark m) = ⊥
-
 pub operator : (w : Token) → ((a : Atom) → w ≡ word.Atom a → ⊥) → ((m : Mark) → w ≡ word.Mark m → ⊥) → Begins w
 operator (word.Atom a) f g = f a refl
 operator (word.Infix op) f g = tt
@@ -363,3 +358,13 @@ moved-whole {bs} {bs′} {n} {q} {q′} {l} e f h = subst (λ b. Whole b n q′ 
 
 pub no-word-is : {bs : List ℕ} {x : List Frame → Spot} {p d q : ℕ} {r : Refusal} → r ≡ NoWord q → Broken bs x p d (NoWord q) → Broken bs x p d r
 no-word-is {bs} {x} {p} {d} e h = subst (λ r. Broken bs x p d r) (sym e) h
+
+pub moved-operand : (bs bs′ : List ℕ) (n p d d′ q : ℕ) (r : Result Part Refusal) → bs′ ≡ bs → d′ ≡ d → Operand-read bs′ n p d′ q r → Operand-read bs n p d q r
+moved-operand bs bs′ n p d d′ q r e g h = subst (λ b. Operand-read b n p d q r) e (subst (λ z. Operand-read bs′ n p z q r) g h)
+
+pub moved-kept : {A : Type 0} (d d′ c : ℕ) (r : Result A Refusal) → d′ ≡ d → Kept d′ c r → Kept d c r
+moved-kept d d′ c r e h = subst (λ z. Kept z c r) e h
+
+pub moved-more : {A : Type 0} (n n′ p p′ q : ℕ) (r : Result A Refusal) → n′ ≡ n → p ≤ p′ → Moved n′ p′ q r → Moved n p q r
+moved-more n n′ p p′ q (Ok u) e l h = (omega arith, omega arith)
+moved-more n n′ p p′ q (Err r) e l h = tt

@@ -14,6 +14,7 @@ use Rattle.lexer.specs.declared.token.Token.{Token}
 use Rattle.lexer.specs.declared.token.Token.the-variants as word
 use Rattle.lexer.specs.declared.lexer.Next.{Next}
 use Rattle.lexer.specs.declared.lexer.Next.the-variants.{Word, Finish, Bad}
+use Rattle.syntax.specs.declared.reader.Part.{Part}
 use Rattle.syntax.specs.declared.refusal.Refusal.{Refusal}
 use Rattle.syntax.specs.declared.refusal.Refusal.the-variants.{NoWord, Unexpected, TooDeep}
 use Rattle.grammar.specs.Grammar.{levels, prefix-level, choice-level, Tree, leaf, bracket, prefix, infix′, choice, level-of, Fits, words, Equation}
@@ -52,14 +53,27 @@ abbrev pub Lies : List ℕ → ℕ → ℕ → List Token → ℕ → ℕ → Ty
 Lies bs p d [] q c = (p ≡ q) × (d ≡ c)
 Lies bs p d (w ∷ ws) q c = (e : ℕ) × (scan bs p ≡ Word w e) × (opened w d ≤ limit) × Lies bs (skip bs e) (opened w d) ws q c
 
+-- The word is no name, channel, literal, truth word or mark: if it begins an expression, it is an operator.
+abbrev pub Begins : Token → Type 0
+Begins (word.Atom a) = ⊥
+Begins (word.Infix op) = Unit {0}
+Begins word.First = Unit {0}
+Begins word.Next = Unit {0}
+Begins word.Not = Unit {0}
+Begins (word.Mark m) = ⊥
+
 -- No word is read at p.
 pub data Halt (bs : List ℕ) (p : ℕ) : Refusal → Type 0 where
   bad : scan bs p ≡ Bad → Halt bs p (NoWord p)
   over : scan bs p ≡ Finish → Halt bs p (Unexpected p)
 
+-- The word w stands at p, and the next one at q.
+abbrev pub Passed : List ℕ → ℕ → ℕ → Token → Type 0
+Passed bs p q w = (e : ℕ) × (scan bs p ≡ Word w e) × (q ≡ skip bs e)
+
 -- A word is read from p on, and the next one stands at q.
 abbrev pub Took : List ℕ → ℕ → ℕ → Result Token Refusal → Type 0
-Took bs p q (Ok w) = (e : ℕ) × (scan bs p ≡ Word w e) × (q ≡ skip bs e)
+Took bs p q (Ok w) = Passed bs p q w
 Took bs p q (Err r) = Halt bs p r
 
 -- Another word than the mark stands at p, or none.
@@ -68,7 +82,7 @@ pub data Missing (bs : List ℕ) (p : ℕ) (m : Mark) : Refusal → Type 0 where
   other-word : {w : Token} {e : ℕ} → scan bs p ≡ Word w e → is m w ≡ false → Missing bs p m (Unexpected p)
 
 abbrev pub Marked : {A : Type 0} → List ℕ → ℕ → ℕ → Mark → Result A Refusal → Type 0
-Marked bs p q m (Ok u) = (e : ℕ) × (scan bs p ≡ Word (word.Mark m) e) × (q ≡ skip bs e)
+Marked bs p q m (Ok u) = Passed bs p q (word.Mark m)
 Marked bs p q m (Err r) = Missing bs p m r
 
 -- An expression of level n, with its own level l, lies from p to q, and the next word goes into no part of it.
@@ -98,12 +112,14 @@ pub record Broken (bs : List ℕ) (at : List Frame → Spot) (p d : ℕ) (r : Re
   pub alive : (es : List Equation) (a : Atom) (fs : List Frame) → (s : Spot) × (run (inside es a (at fs)) read ≡ Some (inside es a s))
   pub stuck : (es : List Equation) (a : Atom) (fs : List Frame) → Stuck bs (run (inside es a (at fs))) read place depth r
 
-abbrev pub Operand-read : List ℕ → ℕ → ℕ → ℕ → ℕ → Result ℕ Refusal → Type 0
-Operand-read bs n p d q (Ok l) = Expression bs n p d q l
+-- The first part of an expression of level n was read.
+abbrev pub Operand-read : List ℕ → ℕ → ℕ → ℕ → ℕ → Result Part Refusal → Type 0
+Operand-read bs n p d q (Ok x) = Expression bs n p d q (x .level)
 Operand-read bs n p d q (Err r) = Broken bs (λ fs. due fs n) p d r
 
-abbrev pub Expression-read : List ℕ → ℕ → ℕ → ℕ → ℕ → Result ℕ Refusal → Type 0
-Expression-read bs n p d q (Ok l) = Expression bs n p d q l × Whole bs n q l
+-- An expression of level n was read, as far as it goes.
+abbrev pub Expression-read : List ℕ → ℕ → ℕ → ℕ → ℕ → Result Part Refusal → Type 0
+Expression-read bs n p d q (Ok x) = Expression bs n p d q (x .level) × Whole bs n q (x .level)
 Expression-read bs n p d q (Err r) = Broken bs (λ fs. due fs n) p d r
 
 -- the next operator of an expression of level n whose left side has the level l

@@ -2,9 +2,16 @@
 
 ghost use Rattle.syntax.specs.Judgement.{Single};
 
+mod draft;
 mod reader;
 mod refusal;
 
+pub use draft::Draft;
+pub use draft::EQUATIONS;
+pub use draft::Equation;
+pub use draft::Node;
+pub use draft::OPERANDS;
+pub use draft::Operand;
 pub use reader::parse;
 pub use refusal::Refusal;
 

@@ -6,7 +6,11 @@ ghost use lib.ListN.{length};
 ghost use Rattle.grammar.specs.Grammar.{atom-level};
 ghost use Rattle.lexer.specs.Lexer.{skip as skipped};
 ghost use Rattle.syntax.specs.Judgement.{Due, Ended, Header-read, Equation-read, Equations-read, Finish-read, Judged};
-ghost use Rattle.syntax.specs.Reading.{limit, Took, Marked, Moved, Kept, Head-read, Another-read, Operand-read, Expression-read, Infix-read};
+ghost use Rattle.syntax.specs.Reading.{limit, Passed, Took, Marked, Moved, Kept, Head-read, Another-read, Operand-read, Expression-read, Infix-read, Begins};
+use crate::draft::Draft;
+use crate::draft::Node;
+use crate::draft::empty;
+use crate::draft::node_of;
 use crate::refusal::Refusal;
 use grammar::ATOM;
 use grammar::CHOICE;
@@ -30,12 +34,20 @@ const MOST: usize = 4096;
 // The most brackets that may be open at once.
 const LIMIT: usize = 16;
 
-// A text, the place of the next word, and how many brackets are open there.
+// An expression: its level, and what it is at its outermost operator.
+#[derive(Clone, Copy)]
+pub struct Part {
+    level: u8,
+    node: Node,
+}
+
+// A text, the place of the next word, how many brackets are open there, and the table of what was read.
 #[derive(Drop)]
 pub struct Reader<'a> {
     text: &'a [u8],
     place: usize,
     depth: usize,
+    draft: Draft,
 }
 
 impl<'a> Reader<'a> {
@@ -97,8 +109,87 @@ impl<'a> Reader<'a> {
         }
     }
 
-    // The first part of an expression of level `min`, up to where an operator may follow; its level.
-    fn operand(&mut self, min: u8) -> Result<u8, Refusal>
+    // A bracketed expression, whose bracket, at `at`, is passed.
+    fn bracket(&mut self, min: u8, at: usize) -> Result<Part, Refusal>
+        requires place { ⌜ now self .place ≤ length (now (now self .text)) ⌝ }
+        requires depth { ⌜ now self .depth ≤ limit ⌝ }
+        requires low { ⌜ min ≤ atom-level ⌝ }
+        requires passed { ⌜ Passed (now (now self .text)) at (now self .place) (Token.Mark Mark.Open) ⌝ }
+        ensures text { λ _. ⌜ now (self .exit) .text ≡ now (self .entry) .text ⌝ }
+        ensures depth { λ r. ⌜ Kept (now (self .entry) .depth) (now (self .exit) .depth) r ⌝ }
+        ensures moved { λ r. ⌜ Moved (length (now (now (self .entry) .text))) (now (self .entry) .place) (now (self .exit) .place) r ⌝ }
+        ensures read { λ r. ⌜ Operand-read (now (now (self .entry) .text)) min at (now (self .entry) .depth) (now (self .exit) .place) r ⌝ }
+    {
+        if self.depth >= LIMIT {
+            return Err(Refusal::TooDeep(at));
+        }
+        self.depth += 1;
+        let inner = self.expression(1)?;
+        self.expect(Mark::Close)?;
+        self.depth -= 1;
+        Ok(Part {
+            level: ATOM,
+            node: inner.node,
+        })
+    }
+
+    // An `if`, whose first word, at `at`, is passed.
+    fn choice(&mut self, min: u8, at: usize) -> Result<Part, Refusal>
+        requires place { ⌜ now self .place ≤ length (now (now self .text)) ⌝ }
+        requires depth { ⌜ now self .depth ≤ limit ⌝ }
+        requires low { ⌜ min ≤ atom-level ⌝ }
+        requires passed { ⌜ Passed (now (now self .text)) at (now self .place) (Token.Mark Mark.If) ⌝ }
+        ensures text { λ _. ⌜ now (self .exit) .text ≡ now (self .entry) .text ⌝ }
+        ensures depth { λ r. ⌜ Kept (now (self .entry) .depth) (now (self .exit) .depth) r ⌝ }
+        ensures moved { λ r. ⌜ Moved (length (now (now (self .entry) .text))) (now (self .entry) .place) (now (self .exit) .place) r ⌝ }
+        ensures read { λ r. ⌜ Operand-read (now (now (self .entry) .text)) min at (now (self .entry) .depth) (now (self .exit) .place) r ⌝ }
+    {
+        if min > CHOICE {
+            return Err(Refusal::Unexpected(at));
+        }
+        let test = self.expression(CHOICE)?;
+        let test = self.draft.place(test.node);
+        self.expect(Mark::Then)?;
+        let branch = self.expression(CHOICE)?;
+        let branch = self.draft.place(branch.node);
+        self.expect(Mark::Else)?;
+        let other = self.expression(CHOICE)?;
+        let other = self.draft.place(other.node);
+        Ok(Part {
+            level: CHOICE,
+            node: Node::Choice(test, branch, other),
+        })
+    }
+
+    // An operator and its operand, whose first word, `token` at `at`, is passed.
+    fn prefix(&mut self, min: u8, at: usize, token: Token) -> Result<Part, Refusal>
+        requires place { ⌜ now self .place ≤ length (now (now self .text)) ⌝ }
+        requires depth { ⌜ now self .depth ≤ limit ⌝ }
+        requires low { ⌜ min ≤ atom-level ⌝ }
+        requires passed { ⌜ Passed (now (now self .text)) at (now self .place) token ⌝ }
+        requires begins { ⌜ Begins token ⌝ }
+        ensures text { λ _. ⌜ now (self .exit) .text ≡ now (self .entry) .text ⌝ }
+        ensures depth { λ r. ⌜ Kept (now (self .entry) .depth) (now (self .exit) .depth) r ⌝ }
+        ensures moved { λ r. ⌜ Moved (length (now (now (self .entry) .text))) (now (self .entry) .place) (now (self .exit) .place) r ⌝ }
+        ensures read { λ r. ⌜ Operand-read (now (now (self .entry) .text)) min at (now (self .entry) .depth) (now (self .exit) .place) r ⌝ }
+    {
+        let Some(op) = prefix_of(token) else {
+            return Err(Refusal::Unexpected(at));
+        };
+        let level = prefix_level(op);
+        if min > level {
+            return Err(Refusal::Unexpected(at));
+        }
+        let inner = self.expression(level)?;
+        let inner = self.draft.place(inner.node);
+        Ok(Part {
+            level,
+            node: Node::Prefix(op, inner),
+        })
+    }
+
+    // The first part of an expression of level `min`, up to where an operator may follow.
+    fn operand(&mut self, min: u8) -> Result<Part, Refusal>
         requires place { ⌜ now self .place ≤ length (now (now self .text)) ⌝ }
         requires depth { ⌜ now self .depth ≤ limit ⌝ }
         requires low { ⌜ min ≤ atom-level ⌝ }
@@ -109,47 +200,21 @@ impl<'a> Reader<'a> {
     {
         let at = self.place;
         match self.word()? {
-            Token::Atom(_) => Ok(ATOM),
+            Token::Atom(atom) => Ok(Part {
+                level: ATOM,
+                node: node_of(atom, at),
+            }),
             Token::Mark(mark) => match mark {
-                Mark::Open => {
-                    if self.depth >= LIMIT {
-                        return Err(Refusal::TooDeep(at));
-                    }
-                    self.depth += 1;
-                    let _inner = self.expression(1)?;
-                    self.expect(Mark::Close)?;
-                    self.depth -= 1;
-                    Ok(ATOM)
-                }
-                Mark::If => {
-                    if min > CHOICE {
-                        return Err(Refusal::Unexpected(at));
-                    }
-                    let _test = self.expression(CHOICE)?;
-                    self.expect(Mark::Then)?;
-                    let _branch = self.expression(CHOICE)?;
-                    self.expect(Mark::Else)?;
-                    let _other = self.expression(CHOICE)?;
-                    Ok(CHOICE)
-                }
+                Mark::Open => self.bracket(min, at),
+                Mark::If => self.choice(min, at),
                 _ => Err(Refusal::Unexpected(at)),
             },
-            token => {
-                let Some(op) = prefix_of(token) else {
-                    return Err(Refusal::Unexpected(at));
-                };
-                let level = prefix_level(op);
-                if min > level {
-                    return Err(Refusal::Unexpected(at));
-                }
-                let _inner = self.expression(level)?;
-                Ok(level)
-            }
+            token => self.prefix(min, at, token),
         }
     }
 
-    // An expression of level `min`, as far as it goes; its own level.
-    fn expression(&mut self, min: u8) -> Result<u8, Refusal>
+    // An expression of level `min`, as far as it goes.
+    fn expression(&mut self, min: u8) -> Result<Part, Refusal>
         requires place { ⌜ now self .place ≤ length (now (now self .text)) ⌝ }
         requires depth { ⌜ now self .depth ≤ limit ⌝ }
         requires low { ⌜ min ≤ atom-level ⌝ }
@@ -158,13 +223,18 @@ impl<'a> Reader<'a> {
         ensures moved { λ r. ⌜ Moved (length (now (now (self .entry) .text))) (now (self .entry) .place) (now (self .exit) .place) r ⌝ }
         ensures read { λ r. ⌜ Expression-read (now (now (self .entry) .text)) min (now (self .entry) .place) (now (self .entry) .depth) (now (self .exit) .place) r ⌝ }
     {
-        let mut level = self.operand(min)?;
-        while let Some(op) = self.infix(min, level)? {
+        let mut part = self.operand(min)?;
+        while let Some(op) = self.infix(min, part.level)? {
             let levels = levels_of(op);
-            let _right = self.expression(levels.right)?;
-            level = levels.own;
+            let left = self.draft.place(part.node);
+            let right = self.expression(levels.right)?;
+            let right = self.draft.place(right.node);
+            part = Part {
+                level: levels.own,
+                node: Node::Infix(op, left, right),
+            };
         }
-        Ok(level)
+        Ok(part)
     }
 
     // The left side of an equation: a name or a channel.
@@ -200,7 +270,10 @@ impl<'a> Reader<'a> {
         };
         match mark {
             Mark::Semicolon => Ok(true),
-            Mark::End => Ok(false),
+            Mark::End => {
+                self.draft.end = at;
+                Ok(false)
+            }
             _ => Err(Refusal::Unexpected(at)),
         }
     }
@@ -230,9 +303,11 @@ impl<'a> Reader<'a> {
         ensures moved { λ r. ⌜ Moved (length (now (now (self .entry) .text))) (now (self .entry) .place) (now (self .exit) .place) r ⌝ }
         ensures read { λ r. ⌜ Equation-read (now (now (self .entry) .text)) (now (self .exit) .place) r ⌝ }
     {
-        let _head = self.head()?;
+        let at = self.place;
+        let head = self.head()?;
         self.expect(Mark::Equals)?;
-        let _level = self.expression(1)?;
+        let part = self.expression(1)?;
+        self.draft.define(head, at, part.node);
         self.another()
     }
 
@@ -264,8 +339,8 @@ impl<'a> Reader<'a> {
     }
 }
 
-/// Whether the bytes are a text of the language.
-pub fn parse(text: &[u8]) -> Result<(), Refusal>
+/// The table of a text, its names not yet looked up.
+pub fn parse(text: &[u8]) -> Result<Draft, Refusal>
     ensures { λ r. ⌜ Judged (now (text .entry)) r ⌝ }
 {
     if text.len() > MOST {
@@ -275,8 +350,10 @@ pub fn parse(text: &[u8]) -> Result<(), Refusal>
         text,
         place: skip(text, 0),
         depth: 0,
+        draft: empty(),
     };
     reader.header()?;
     reader.equations()?;
-    reader.finish()
+    reader.finish()?;
+    Ok(reader.draft)
 }

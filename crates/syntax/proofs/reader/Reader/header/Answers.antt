@@ -6,8 +6,8 @@ use Rattle.std.proofs.shelf.Results.{err-from-errBy}
 use Rattle.lexer.specs.declared.token.Mark.the-variants.{Compute, Output, Where}
 use Rattle.lexer.specs.declared.token.Token.the-variants as word
 use Rattle.syntax.specs.Reading.{Marked}
-use Rattle.syntax.proofs.Steps.{moved-missing, moved-marked}
-use Rattle.syntax.proofs.Judge.{way-first, mark-way, header-missing, header-end, kept-all, moved-more, moved-mark}
+use Rattle.syntax.proofs.Steps.{moved-more, moved-missing, moved-marked}
+use Rattle.syntax.proofs.Judge.{way-first, mark-way, header-missing, header-end, kept-all, moved-mark}
 use Rattle.syntax.proofs.reader.Reader.header.Needs as need
 
 pub returns-in-Break-expect : need.returns-in-Break-expect

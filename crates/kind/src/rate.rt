@@ -1,10 +1,10 @@
+//! Rates: finite IEEE 754 binary64 numbers.
+
 ghost use mathlib.Core.Path.{_≡_};
 ghost use lib.Dec.{T};
 ghost use lib.Ieee as Ieee;
 ghost use Rattle.kind.specs.Rates.{rates, packed, unpacked, calculated, holds, alike};
 use crate::finite::Finite;
-use crate::finite::FiniteDebug;
-use crate::finite::FinitePartialEq;
 use crate::kinds::Kind;
 use reading::Arithmetic;
 use reading::KindFault;
@@ -12,7 +12,7 @@ use reading::Relation;
 use std::num::f64_from_bits_with_nan;
 
 /// A rate, a finite binary64 number that is kept by its bits, or a truth value.
-#[derive(Clone, Copy, PartialEq, Eq, Debug)]
+#[derive(Clone, Copy)]
 pub enum Rate {
     Number(Finite),
     Truth(bool),

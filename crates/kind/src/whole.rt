@@ -1,3 +1,5 @@
+//! Whole numbers.
+
 ghost use mathlib.Core.Path.{_≡_};
 ghost use lib.IntN.{ℤ};
 ghost use mir.Syntax.{w32};
@@ -5,8 +7,6 @@ ghost use mir.Val.{SFits};
 ghost use Rattle.std.specs.Numbers.{Checked};
 ghost use Rattle.kind.specs.Wholes.{wholes, fitted, calculated, holds, alike};
 use crate::bounded::Integer;
-use crate::bounded::IntegerDebug;
-use crate::bounded::IntegerPartialEq;
 use crate::kinds::Kind;
 use reading::Arithmetic;
 use reading::KindFault;
@@ -16,7 +16,7 @@ use reading::Relation;
 const LIMIT: u64 = 2147483647;
 
 /// A whole number or a truth value.
-#[derive(Clone, Copy, PartialEq, Eq, Debug)]
+#[derive(Clone, Copy)]
 pub enum Whole {
     Number(Integer),
     Truth(bool),

@@ -4,7 +4,7 @@ ghost use mathlib.Core.Path.{_≡_};
 ghost use Rattle.reading.specs.Faults.{numberOf, ofKind, ofSource};
 
 /// What went wrong, by the number that is printed.
-#[derive(Clone, Copy, PartialEq, Eq, Debug)]
+#[derive(Clone, Copy)]
 pub enum FaultNumber {
     /// An `asa` never met its condition below the horizon.
     Unreached = 1,
@@ -29,7 +29,7 @@ impl FaultNumber {
 }
 
 /// What a value kind may answer in place of a value.
-#[derive(Clone, Copy, PartialEq, Eq, Debug)]
+#[derive(Clone, Copy)]
 pub enum KindFault {
     WrongKind,
     ZeroDivisor,
@@ -49,7 +49,7 @@ pub impl From<KindFault> for FaultNumber as FromKindFault {
 }
 
 /// What a source may say in place of a value.
-#[derive(Clone, Copy, PartialEq, Eq, Debug)]
+#[derive(Clone, Copy)]
 pub enum SourceFault {
     Ended,
     Gap,
@@ -69,7 +69,7 @@ pub impl From<SourceFault> for FaultNumber as FromSourceFault {
 }
 
 /// A fault, with the row and the tick of its birth.
-#[derive(Clone, Copy, PartialEq, Eq, Debug)]
+#[derive(Clone, Copy)]
 pub struct Fault {
     pub number: FaultNumber,
     pub row: u8,
@@ -77,7 +77,7 @@ pub struct Fault {
 }
 
 /// What a row reads at a tick: a value of any kind, or a fault.
-#[derive(Clone, Copy, PartialEq, Eq, Debug)]
+#[derive(Clone, Copy)]
 pub enum Reading<V> {
     Value(V),
     Fault(Fault),

@@ -1,6 +1,6 @@
 //! The rows of a table of equations.
 
-#[derive(Clone, Copy, PartialEq, Eq, Debug)]
+#[derive(Clone, Copy)]
 pub enum Arithmetic {
     Add,
     Subtract,
@@ -8,7 +8,7 @@ pub enum Arithmetic {
     Divide,
 }
 
-#[derive(Clone, Copy, PartialEq, Eq, Debug)]
+#[derive(Clone, Copy)]
 pub enum Relation {
     Equal,
     Unequal,
@@ -19,7 +19,7 @@ pub enum Relation {
 }
 
 /// A row: an operator with the rows of its operands.
-#[derive(Clone, Copy, PartialEq, Eq, Debug)]
+#[derive(Clone, Copy)]
 pub enum Row {
     Literal(u32),
     Truth(bool),

@@ -18,6 +18,7 @@ use Rattle.source.specs.declared.format.RecordingError.{RecordingError}
 use Rattle.source.specs.declared.format.RecordingError.the-variants.{Header, Mark, Length}
 use Rattle.source.specs.Sources.{Meaning}
 
+-- The number of a refusal, and its place.
 abbrev pub numberOf : RecordingError → ℕ
 numberOf (Header p) = 10
 numberOf (Mark p) = 11
@@ -28,21 +29,24 @@ placeOf (Header p) = p
 placeOf (Mark p) = p
 placeOf (Length p) = p
 
--- where the bytes of a tick begin, with its mark, and the word of a channel there
+-- Where the bytes of a tick begin, with its mark.
 abbrev pub start : Counts → ℕ → ℕ
 start n t = 6 + t * (1 + 8 * n .channels)
 
+-- The eight bytes of a word.
 abbrev pub wordAt : List ℕ → ℕ → List ℕ
 wordAt bytes at =
     getD bytes at 0 ∷ getD bytes (at + 1) 0 ∷ getD bytes (at + 2) 0 ∷ getD bytes (at + 3) 0 ∷ getD bytes (at + 4) 0 ∷ getD bytes (at + 5) 0 ∷ getD bytes (at + 6) 0 ∷ getD bytes (at + 7) 0 ∷ []
 
+-- How long a recording of these counts is.
 abbrev pub sizeOf : Counts → ℕ
 sizeOf n = start n (n .ticks)
 
--- The header of a recording of the kind with that code: its counts, or the first field that is not as it should be.
+-- The tick count that the header says.
 abbrev pub ticksOf : List ℕ → ℕ
 ticksOf bytes = number 256 (take 4 (drop 2 bytes))
 
+-- The header of a recording of the kind with that code: its counts, or the first field that is not as it should be.
 abbrev pub counted : ℕ → List ℕ → Result Counts RecordingError
 counted code bytes =
     cond (ltb (length bytes) 6) (Err (Header (length bytes)))
@@ -56,6 +60,7 @@ abbrev pub firstBad : List ℕ → Counts → ℕ → ℕ → Option ℕ
 firstBad bytes n t zero = None
 firstBad bytes n t (suc d) = cond (ltb 1 (getD bytes (start n t) 0)) (Some t) (firstBad bytes n (suc t) d)
 
+-- The counts, or the refusal of a mark.
 abbrev pub marked : List ℕ → Counts → Option ℕ → Result Counts RecordingError
 marked bytes n None = Ok n
 marked bytes n (Some t) = Err (Mark (start n t))
@@ -69,11 +74,12 @@ sized bytes (Ok n) = cond (eqb (length bytes) (sizeOf n)) (marked bytes n (first
 abbrev pub checked : ℕ → List ℕ → Result Counts RecordingError
 checked code bytes = sized bytes (counted code bytes)
 
--- what a word says
+-- What a word says: its value, or that it stands for none.
 abbrev pub heard : {V : Type 0} → Option V → Result V SourceFault
 heard (Some v) = Ok v
 heard None = Err OutOfRange
 
+-- What a recording of these counts means: below them a gap where the mark is 0, and else what the word says.
 abbrev pub recorded : {V : Type 0} → Kinds.Meaning V → List ℕ → Counts → Meaning V
 recorded k bytes n =
     record {

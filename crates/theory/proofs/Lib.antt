@@ -1,0 +1,9 @@
+pub mod Search
+pub mod Local
+pub mod Sheets
+pub mod Eventually
+pub mod Readings
+pub mod Gives
+pub mod Least
+pub mod Potential
+pub mod Determined

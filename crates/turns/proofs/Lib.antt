@@ -1,0 +1,5 @@
+pub mod Slots
+pub mod Agree
+pub mod Midturn
+pub mod Mid
+pub mod Settling

@@ -1,9 +1,20 @@
 //! What a text is made of.
 
+ghost use mathlib.Core.Path.{_≡_};
+ghost use Rattle.std.specs.Orderings.{Decides};
+
 /// A name, its letters small, filled up with zeros.
-#[derive(Clone, Copy, PartialEq, Eq)]
+#[derive(Clone, Copy)]
 pub struct Name {
     pub bytes: [u8; 16],
+}
+
+pub impl PartialEq<Name> for Name as NamePartialEq {
+    ghost equals = { λ x y r. Decides r (x .bytes ≡ y .bytes) };
+
+    fn eq(&self, other: &Name) -> bool {
+        self.bytes == other.bytes
+    }
 }
 
 /// What stands by itself as an expression.

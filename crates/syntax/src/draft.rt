@@ -131,4 +131,15 @@ impl Draft {
             self.excess = Some(place);
         }
     }
+
+    /// The equations that are kept.
+    pub fn kept(&self) -> &[Equation]
+        ensures { λ r. ⌜ now r ≡ take (now (self .entry) .count) (now (self .entry) .equations) ⌝ }
+    {
+        if self.count < EQUATIONS {
+            &self.equations[..self.count]
+        } else {
+            &self.equations
+        }
+    }
 }

@@ -12,11 +12,11 @@ ghost use Rattle.turns.specs.Holds.{At};
 ghost use Rattle.engine.specs.Tells.{Valid, Lawful, Renewed, Stays};
 use crate::calls::Refusal;
 use crate::run::Run;
-use turns::settle_stage;
-use turns::make_tick;
+use kind::Kind;
 use reading::Reading;
 use source::Source;
-use kind::Kind;
+use turns::make_tick;
+use turns::settle_stage;
 
 impl<'p, 't, 'c, V: Kind> Run<'p, 't, 'c, V> {
     /// Forgets the ticks made and keeps what is settled.

@@ -1,7 +1,7 @@
 //! A run over a checked table and cells.
 
-use table::View;
 use reading::Reading;
+use table::View;
 
 /// A run: how far it has come, over a table and cells.
 #[derive(Drop)]

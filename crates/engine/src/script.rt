@@ -12,11 +12,11 @@ ghost use Rattle.engine.specs.Tells.{Valid, Tells, Lawful, Stays};
 use crate::calls::Answer;
 use crate::calls::Call;
 use crate::calls::Refusal;
-use table::View;
 use crate::run::Run;
+use kind::Kind;
 use reading::Reading;
 use source::Source;
-use kind::Kind;
+use table::View;
 
 fn opened<V: Kind>(r: Result<u8, Refusal>) -> Answer<V>
     ensures { λ a. ⌜ a ≡ opened r ⌝ }

@@ -60,3 +60,8 @@ result-name = record { bytes = filled (codes "result") }
 abbrev pub or-none : ℕ → Option ℕ → Result ℕ Refusal
 or-none end None = Err (NoResult end)
 or-none end (Some k) = Ok k
+
+-- A row, if there is one, is below n.
+abbrev pub Row-within : ℕ → Result ℕ Refusal → Type 0
+Row-within n (Ok k) = k < n
+Row-within n (Err r) = Unit {0}

@@ -18,7 +18,7 @@ use Rattle.load.specs.declared.refusal.Refusal.{Refusal}
 use Rattle.load.specs.declared.refusal.Refusal.the-variants.{Ring}
 use Rattle.load.specs.Refusals.{from-reading}
 use Rattle.load.specs.Heads.{found, heads-from, result-name, or-none}
-use Rattle.load.specs.Sizes.{sized}
+use Rattle.load.specs.Sizes.{few, operand-count}
 use Rattle.load.specs.Uses.{used}
 use Rattle.load.specs.Rows.{table-rows}
 
@@ -39,11 +39,12 @@ equations-of d = take (d .count) (d .equations)
 -- What is made of a draft: its size, its left sides, `result`, its uses of names and its rings are tried in this order.
 abbrev pub Tabled : Draft → Result Table Refusal → Type 0
 Tabled d r =
-    then (sized (d .excess) (equations-of d)) (λ n.
+    then (few (d .excess)) (λ t.
+    then (operand-count (equations-of d)) (λ n.
     then (heads-from [] (equations-of d)) (λ u.
     then (or-none (d .end) (found result-name (equations-of d))) (λ k.
     then (used (equations-of d) (take n (d .operands))) (λ v.
-    Ended (table-rows (equations-of d) (take n (d .operands))) k)))) r
+    Ended (table-rows (equations-of d) (take n (d .operands))) k))))) r
 
 -- What is made of the reader's answer.
 abbrev pub Made : Result Draft ReadingRefusal → Result Table Refusal → Type 0

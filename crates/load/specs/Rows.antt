@@ -7,9 +7,9 @@ use lib.ListN.{length}
 use Rattle.std.specs.declared.option.Option.{Option}
 use Rattle.std.specs.declared.option.Option.the-variants.{Some, None}
 use Rattle.lexer.specs.declared.token.Infix.{Infix}
-use Rattle.lexer.specs.declared.token.Infix.the-variants as infix
+use Rattle.lexer.specs.declared.token.Infix.the-variants as between
 use Rattle.lexer.specs.declared.token.Prefix.{Prefix}
-use Rattle.lexer.specs.declared.token.Prefix.the-variants as prefix
+use Rattle.lexer.specs.declared.token.Prefix.the-variants as before
 use Rattle.reading.specs.declared.rows.Arithmetic.the-variants as arithmetic
 use Rattle.reading.specs.declared.rows.Relation.the-variants as relation
 use Rattle.reading.specs.declared.rows.Row.{Row}
@@ -33,27 +33,27 @@ operand-row es count (operand.Row k) = cond (ltb (length es + k) count) (length 
 
 -- The row of an operator before its operand.
 abbrev pub prefix-row : Prefix → ℕ → Row
-prefix-row prefix.Negate x = row.Negate x
-prefix-row prefix.First x = row.First x
-prefix-row prefix.Next x = row.Next x
-prefix-row prefix.Not x = row.Not x
+prefix-row before.Negate x = row.Negate x
+prefix-row before.First x = row.First x
+prefix-row before.Next x = row.Next x
+prefix-row before.Not x = row.Not x
 
 -- The row of an operator between its operands.
 abbrev pub infix-row : Infix → ℕ → ℕ → Row
-infix-row infix.Fby x y = row.Fby x y
-infix-row infix.Asa x y = row.Asa x y
-infix-row infix.Or x y = row.Or x y
-infix-row infix.And x y = row.And x y
-infix-row infix.Eq x y = row.Relate relation.Equal x y
-infix-row infix.Ne x y = row.Relate relation.Unequal x y
-infix-row infix.Lt x y = row.Relate relation.Less x y
-infix-row infix.Le x y = row.Relate relation.AtMost x y
-infix-row infix.Gt x y = row.Relate relation.Greater x y
-infix-row infix.Ge x y = row.Relate relation.AtLeast x y
-infix-row infix.Add x y = row.Compute arithmetic.Add x y
-infix-row infix.Sub x y = row.Compute arithmetic.Subtract x y
-infix-row infix.Mul x y = row.Compute arithmetic.Multiply x y
-infix-row infix.Div x y = row.Compute arithmetic.Divide x y
+infix-row between.Fby x y = row.Fby x y
+infix-row between.Asa x y = row.Asa x y
+infix-row between.Or x y = row.Or x y
+infix-row between.And x y = row.And x y
+infix-row between.Eq x y = row.Relate relation.Equal x y
+infix-row between.Ne x y = row.Relate relation.Unequal x y
+infix-row between.Lt x y = row.Relate relation.Less x y
+infix-row between.Le x y = row.Relate relation.AtMost x y
+infix-row between.Gt x y = row.Relate relation.Greater x y
+infix-row between.Ge x y = row.Relate relation.AtLeast x y
+infix-row between.Add x y = row.Compute arithmetic.Add x y
+infix-row between.Sub x y = row.Compute arithmetic.Subtract x y
+infix-row between.Mul x y = row.Compute arithmetic.Multiply x y
+infix-row between.Div x y = row.Compute arithmetic.Divide x y
 
 -- The row of a node. A bare name reads that name's row.
 abbrev pub node-row : List Equation → ℕ → Node → Row

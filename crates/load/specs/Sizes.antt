@@ -21,10 +21,14 @@ abbrev pub counted : ℕ → ℕ → List Equation → Result ℕ Refusal
 counted room rows [] = Ok rows
 counted room rows (e ∷ es) = cond (ltb room (e .rows)) (Err (TooMany (e .place))) (counted room (e .rows) es)
 
--- The number of operand rows; an equation too many is refused at its place p, and else the equation of a row too many.
-abbrev pub sized : Option ℕ → List Equation → Result ℕ Refusal
-sized (Some p) es = Err (TooMany p)
-sized None es = counted (row-limit - length es) 0 es
+-- An equation too many is refused at its place.
+abbrev pub few : Option ℕ → Result (Unit {0}) Refusal
+few None = Ok tt
+few (Some p) = Err (TooMany p)
+
+-- The number of operand rows; else the equation in which the first row too many arises is refused.
+abbrev pub operand-count : List Equation → Result ℕ Refusal
+operand-count es = counted (row-limit - length es) 0 es
 
 -- The rows of n equations and of their operands are not too many.
 abbrev pub Room : ℕ → Result ℕ Refusal → Type 0

@@ -4,7 +4,7 @@ ghost use mathlib.Core.Path.{_≡_};
 ghost use mathlib.Core.List.{[]};
 ghost use Prim.Native.Nat.{_<_, _≤_};
 ghost use lib.ListN.{length, getD, take};
-ghost use Rattle.load.specs.Heads.{defines as defines-name, found, Within, clashes as clashes-with, heads-from, result-name, or-none};
+ghost use Rattle.load.specs.Heads.{defines as defines-name, found, Within, Row-within, clashes as clashes-with, heads-from, result-name, or-none};
 use crate::refusal::Refusal;
 use lexer::Atom;
 use lexer::Name;
@@ -67,6 +67,7 @@ const RESULT: Name = Name {
 pub(crate) fn find_result(equations: &[Equation], end: usize) -> Result<u8, Refusal>
     requires { ⌜ length (now equations) ≤ 64 ⌝ }
     ensures value { λ r. ⌜ r ≡ or-none end (found result-name (now (equations .entry))) ⌝ }
+    ensures within { λ r. ⌜ Row-within (length (now (equations .entry))) r ⌝ }
 {
     match find(equations, RESULT) {
         Some(row) => Ok(row as u8),

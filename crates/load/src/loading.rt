@@ -6,6 +6,7 @@ use crate::heads::find_result;
 use crate::refusal::FromReading;
 use crate::refusal::Refusal;
 use crate::rows::table_rows;
+use crate::sizes::check_count;
 use crate::sizes::count_operands;
 use crate::uses::check_uses;
 use syntax::parse;
@@ -18,13 +19,14 @@ pub fn load(text: &[u8]) -> Result<Table, Refusal>
 {
     let draft = parse(text)?;
     let equations = draft.kept();
-    let count = count_operands(equations, draft.excess)?;
+    check_count(draft.excess)?;
+    let count = count_operands(equations)?;
     check_heads(equations)?;
     let result = find_result(equations, draft.end)?;
     let operands = &draft.operands[..count];
     check_uses(equations, operands)?;
     let rows = table_rows(equations, operands);
-    match check_rows(&rows[..equations.len() + count], result) {
+    match check_rows(&rows[..equations.len() + operands.len()], result) {
         Some(table) => Ok(table),
         None => Err(Refusal::Ring),
     }

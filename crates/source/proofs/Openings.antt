@@ -49,7 +49,13 @@ module _ (code : ℕ) (bytes : List ℕ) where
       fields long same some few true q = bad-ticks long same some few (ltb-true _ _ q)
       fields long same some few false q =
           lengths counts (record {
-            whole = long; kind = same; channels = refl; some-channel = some; few-channels = few; ticks = refl; few-ticks = ltb-false _ _ q;
+            whole = long;
+            kind = same;
+            channels = refl;
+            some-channel = some;
+            few-channels = few;
+            ticks = refl;
+            few-ticks = ltb-false _ _ q;
           })
 
       channels : 6 ≤ length bytes → getD bytes 0 0 ≡ code → (b : Bool) → (ltb (getD bytes 1 0) 1 || ltb 8 (getD bytes 1 0)) ≡ b →

@@ -1,8 +1,9 @@
 //! The unchecked table: what a text says, row by row, with its names not yet looked up.
 
 ghost use mathlib.Core.Path.{_≡_};
-ghost use lib.ListN.{take};
-ghost use Rattle.syntax.specs.Drafts.{empty as empty-draft, node-of as atom-node, placed, with-row, defined, row-limit, equation-limit};
+ghost use Prim.Native.Nat.{_≤_};
+ghost use lib.ListN.{length, take};
+ghost use Rattle.syntax.specs.Drafts.{empty as empty-draft, node-of as atom-node, placed, with-row, defined, equation-limit};
 use lexer::Atom;
 use lexer::Infix;
 use lexer::Name;
@@ -134,7 +135,8 @@ impl Draft {
 
     /// The equations that are kept.
     pub fn kept(&self) -> &[Equation]
-        ensures { λ r. ⌜ now r ≡ take (now (self .entry) .count) (now (self .entry) .equations) ⌝ }
+        ensures value { λ r. ⌜ now r ≡ take (now (self .entry) .count) (now (self .entry) .equations) ⌝ }
+        ensures few { λ r. ⌜ length (now r) ≤ equation-limit ⌝ }
     {
         if self.count < EQUATIONS {
             &self.equations[..self.count]

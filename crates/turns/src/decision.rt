@@ -5,6 +5,7 @@ ghost use mathlib.Core.Bool.{true, false, not};
 ghost use Rattle.reading.specs.Faults.{ofKind, ofSource};
 ghost use Rattle.theory.specs.Rule.{is, answered, born};
 ghost use Rattle.turns.specs.Reads.{decided};
+use kind::Kind;
 use reading::Fault;
 use reading::FaultNumber;
 use reading::FromKindFault;
@@ -13,7 +14,6 @@ use reading::KindFault;
 use reading::Reading;
 use reading::Row;
 use reading::SourceFault;
-use kind::Kind;
 
 /// Whether a reading is the truth value `b`.
 pub fn is<V: Kind>(b: bool, reading: &Reading<V>) -> bool
@@ -95,8 +95,16 @@ pub fn decide<V: Kind>(
         (_, _, Reading::Fault(f)) => Reading::Fault(*f),
         (Row::And(_, _), _, _) if is(true, a) && is(true, b) => Reading::Value(V::truth(true)),
         (Row::Or(_, _), _, _) if is(false, a) && is(false, b) => Reading::Value(V::truth(false)),
-        (Row::Compute(op, _, _), Reading::Value(v), Reading::Value(w)) => computed(V::compute(op, *v, *w), r, t),
-        (Row::Relate(op, _, _), Reading::Value(v), Reading::Value(w)) => computed(V::relate(op, *v, *w), r, t),
+        (Row::Compute(op, _, _), Reading::Value(v), Reading::Value(w)) => computed(
+            V::compute(op, *v, *w),
+            r,
+            t,
+        ),
+        (Row::Relate(op, _, _), Reading::Value(v), Reading::Value(w)) => computed(
+            V::relate(op, *v, *w),
+            r,
+            t,
+        ),
         (Row::And(_, _) | Row::Or(_, _), _, _) => fault(FaultNumber::WrongKind, r, t),
     }
 }

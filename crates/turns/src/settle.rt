@@ -12,14 +12,14 @@ ghost use Rattle.table.specs.Views.{seen};
 ghost use Rattle.turns.specs.Holds.{At, slot, Holds, Settled, Kept};
 use crate::decision::fault;
 use crate::decision::is;
-use table::View;
 use crate::turn::fetch;
 use crate::turn::turn;
+use kind::Kind;
 use reading::FaultNumber;
 use reading::Reading;
 use reading::Row;
 use source::Source;
-use kind::Kind;
+use table::View;
 
 /// What an `asa` row reads, from its sides at the tick that ends its search.
 fn taken<V: Kind>(x: Reading<V>, y: Reading<V>, r: u8, t: u32) -> Reading<V>

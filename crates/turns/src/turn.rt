@@ -11,14 +11,14 @@ ghost use Rattle.turns.specs.Holds.{At, slot, Holds, Settled, Kept};
 ghost use Rattle.turns.specs.Reads.{Has, Left, Right, Third, Within, Ready};
 use crate::decision::decide;
 use crate::decision::heard;
+use kind::Kind;
+use reading::Reading;
+use reading::Row;
+use source::Source;
 use table::Place;
 use table::View;
 use window::Window;
 use window::slot;
-use reading::Reading;
-use reading::Row;
-use source::Source;
-use kind::Kind;
 
 /// The reading of row `x` at tick `t`, from the row's window.
 pub fn fetch<V: Kind>(plan: &View<'_>, cells: &[Reading<V>], x: u8, t: u32) -> Reading<V>

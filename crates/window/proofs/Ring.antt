@@ -16,9 +16,10 @@ pub apart : (d k n : ℕ) → k < n → n < k + d → k % d ≢ n % d
 apart d k n lt near e =
     let a = div-add-mod k d in
     let b = div-add-mod n d in
-    elim (decLt (k / d) (n / d))
-    [ yes up ↦ (let m = mul-le-mul-left d up in let s = mul-suc d (k / d) in omega arith)
-    | no down ↦ (let m = mul-le-mul-left {m = n / d} {n = k / d} d (omega arith) in omega arith) ]
+    elim (decLt (k / d) (n / d)) [
+      | yes up ↦ (let m = mul-le-mul-left d up in let s = mul-suc d (k / d) in omega arith)
+      | no down ↦ (let m = mul-le-mul-left {m = n / d} {n = k / d} d (omega arith) in omega arith)
+    ]
 
 module _ {A : Type 0} (cells history : List A) (n : ℕ) (x : A) (p : 0 < length cells) (ln : length history ≡ n) (h : Holds cells history) where
   pub pushed : Holds (set cells (n % length cells) x) (history ++ x ∷ [])
@@ -26,13 +27,14 @@ module _ {A : Type 0} (cells history : List A) (n : ℕ) (x : A) (p : 0 < length
       let l = length-append history (x ∷ []) in
       let s = length-set cells (n % length cells) x in
       let m : n % length cells < length cells = mod-lt n p in
-      elim (decLt k n)
-      [ yes old ↦
-          (let ne : k % length cells ≢ n % length cells = apart (length cells) k n old (omega arith) in
-          rw s (rw getD-set-other (h k d (omega arith) (omega arith) ∙ sym (getD-append-left history (x ∷ []) d k (omega arith)))))
-      | no new ↦
-          (let e : k ≡ n = omega arith in
-          rw (s, e, getD-set-same) (sym (getD-at history x [] d n ln))) ]
+      elim (decLt k n) [
+        | yes old ↦
+            (let ne : k % length cells ≢ n % length cells = apart (length cells) k n old (omega arith) in
+            rw s (rw getD-set-other (h k d (omega arith) (omega arith) ∙ sym (getD-append-left history (x ∷ []) d k (omega arith)))))
+        | no new ↦
+            (let e : k ≡ n = omega arith in
+            rw (s, e, getD-set-same) (sym (getD-at history x [] d n ln)))
+      ]
 
 pub entry-at : {A : Type 0} (cells : List A) (i : ℕ) (d : A) → i < length cells → Some (getD cells i d) ≡ entryAt cells i
 entry-at [] i d lt = let n : i < 0 = lt in absurd (omega arith)

@@ -4,4 +4,4 @@ use Rattle.std.proofs.shelf.Lists.{take-all}
 use Rattle.syntax.proofs.draft.Draft.kept.Needs as need
 
 pub returns-else-self-lt-EQUATIONS : need.returns-else-self-lt-EQUATIONS
-returns-else-self-lt-EQUATIONS c = sym (take-all _ _ (omega arith))
+returns-else-self-lt-EQUATIONS c = record { value = sym (take-all _ _ (omega arith)); few = omega arith }

@@ -32,23 +32,20 @@ abbrev pub Ended : List Row → ℕ → Result Table Refusal → Type 0
 Ended rows result (Ok t) = Checked rows result (t .schedule)
 Ended rows result (Err e) = (e ≡ Ring) × SomeOtherRing (tableEdges rows)
 
--- The equations of a draft.
-abbrev pub equations-of : Draft → List Equation
-equations-of d = take (d .count) (d .equations)
-
--- What is made of a draft: its size, its left sides, `result`, its uses of names and its rings are tried in this order.
-abbrev pub Tabled : Draft → Result Table Refusal → Type 0
-Tabled d r =
+-- What is made of a draft and its equations: the sizes, the left sides, `result`, the uses of names and the rings are
+-- tried in this order.
+abbrev pub Tabled : Draft → List Equation → Result Table Refusal → Type 0
+Tabled d es r =
     then (few (d .excess)) (λ t.
-    then (operand-count (equations-of d)) (λ n.
-    then (heads-from [] (equations-of d)) (λ u.
-    then (or-none (d .end) (found result-name (equations-of d))) (λ k.
-    then (used (equations-of d) (take n (d .operands))) (λ v.
-    Ended (table-rows (equations-of d) (take n (d .operands))) k))))) r
+    then (operand-count es) (λ n.
+    then (heads-from [] es) (λ u.
+    then (or-none (d .end) (found result-name es)) (λ k.
+    then (used es (take n (d .operands))) (λ v.
+    Ended (table-rows es (take n (d .operands))) k))))) r
 
 -- What is made of the reader's answer.
 abbrev pub Made : Result Draft ReadingRefusal → Result Table Refusal → Type 0
-Made (Ok d) r = Tabled d r
+Made (Ok d) r = Tabled d (take (d .count) (d .equations)) r
 Made (Err e) r = r ≡ Err (from-reading e)
 
 -- What is made of the bytes: the reader judges them, and the rest goes by its answer.

@@ -33,8 +33,7 @@ module _ {V : Type 0} (k : Meaning V) (says : Says V) (before after : Run V) (st
   settled-more a law H stages ticks g =
       let both = law (g .past) (g .tells) in
       let is : a ≡ Left (stages - 1) = rw (g .left) at (both .0 .1 H (g .horizon)) in
-      let fewer : laid before .stages - (settlesOf (g .past) + 1) ≡ stages - 1 = let e = g .left in omega arith in
-      (
+      let fewer : laid before .stages - (settlesOf (g .past) + 1) ≡ stages - 1 = let e = g .left in omega arith in (
         is,
         record {
           past = record { call = Settle; answer = Left (stages - 1) } ∷ g .past;
@@ -51,8 +50,7 @@ module _ {V : Type 0} (k : Meaning V) (says : Says V) (before after : Run V) (st
   stepped-more a law H ticks σ fits below g =
       let both = law (g .past) (g .tells) in
       let low : stepsOf (g .past) < H = let e = g .made in omega arith in
-      let is : a ≡ Made ticks (σ (laid before .result) ticks) = rw (g .made) at (both .0 .1 H (g .horizon) .2 (g .left) low σ fits) in
-      (
+      let is : a ≡ Made ticks (σ (laid before .result) ticks) = rw (g .made) at (both .0 .1 H (g .horizon) .2 (g .left) low σ fits) in (
         is,
         record {
           past = record { call = Step; answer = Made ticks (σ (laid before .result) ticks) } ∷ g .past;

@@ -18,12 +18,16 @@ pub loop-again : need.loop-again
 loop-again g c =
     let inv = c .loop .inv in
     let call = c .step .ensures in
-    let below : c .loop .counter < c .args .horizon = omega arith in
-    (call .valid, (call .stays .0 ∙ inv .1 .0, call .stays .1 ∙ inv .1 .1), λ σ fits going.
-      let so = inv .2 σ fits going in
-      let is = made-is _ _ (c .args .run .now) (c .loop .run) (c .step .last .self) (inv .1) (call .stays) _ (call .law) _ _ σ fits below (so .0) _ (c .in-Continue-tick .was tt) in
-      (going-on _ _ (c .args .run .now) (c .loop .run) (c .step .last .self) (inv .1) (call .stays) _ (call .law) _ _ σ fits below (so .0),
-       lines-more _ _ _ _ _ _ _ _ (is .0) (is .1) (so .1) (c .push-to .ensures)))
+    let below : c .loop .counter < c .args .horizon = omega arith in (
+      call .valid,
+      (call .stays .0 ∙ inv .1 .0, call .stays .1 ∙ inv .1 .1),
+      λ σ fits going.
+          let so = inv .2 σ fits going in
+          let is = made-is _ _ (c .args .run .now) (c .loop .run) (c .step .last .self) (inv .1) (call .stays) _ (call .law) _ _ σ fits below (so .0) _ (c .in-Continue-tick .was tt) in (
+            going-on _ _ (c .args .run .now) (c .loop .run) (c .step .last .self) (inv .1) (call .stays) _ (call .law) _ _ σ fits below (so .0),
+            lines-more _ _ _ _ _ _ _ _ (is .0) (is .1) (so .1) (c .push-to .ensures),
+          ),
+    )
 
 pub returns : need.returns
 returns g c = λ σ fits going.

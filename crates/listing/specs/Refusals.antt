@@ -1,0 +1,34 @@
+-- Numbers and places of refusals.
+use Prim.Native.Nat.{ℕ}
+use Rattle.engine.specs.declared.calls.Refusal.{Refusal}
+use Rattle.engine.specs.declared.calls.Refusal.the-variants as Calls
+use Rattle.format.specs.declared.lines.Refused.{Refused}
+use Rattle.load.specs.Refusals as Texts
+use Rattle.source.specs.Recordings as Recordings
+use Rattle.listing.specs.declared.refusal.Refusal as Own
+use Rattle.listing.specs.declared.refusal.Refusal.the-variants.{Text, Recording, Run}
+
+-- The number of a refused call.
+abbrev pub callNumber : Refusal → ℕ
+callNumber Calls.NoHorizon = 13
+callNumber Calls.Horizon = 14
+callNumber Calls.Cells = 15
+callNumber Calls.StageLeft = 16
+callNumber Calls.Over = 17
+callNumber Calls.Place = 18
+
+-- The number of a refusal.
+abbrev pub numberOf : Own.Refusal → ℕ
+numberOf (Text r) = Texts.number r
+numberOf (Recording e) = Recordings.numberOf e
+numberOf (Run r) = callNumber r
+
+-- The place of a refusal, which is 0 for a call of the run.
+abbrev pub placeOf : Own.Refusal → ℕ
+placeOf (Text r) = Texts.place r
+placeOf (Recording e) = Recordings.placeOf e
+placeOf (Run r) = 0
+
+-- A refusal as it is printed.
+abbrev pub refused : Own.Refusal → Refused
+refused r = record { number = numberOf r; place = placeOf r }

@@ -35,7 +35,7 @@ pub enum Node {
 }
 
 /// The node of a name, a channel, a literal or a truth word at a place.
-pub fn node_of(atom: Atom, place: usize) -> Node
+pub(crate) fn node_of(atom: Atom, place: usize) -> Node
     ensures { λ r. ⌜ r ≡ atom-node atom place ⌝ }
 {
     match atom {
@@ -69,7 +69,7 @@ pub struct Draft {
 }
 
 /// The draft of no equation.
-pub fn empty() -> Draft
+pub(crate) fn empty() -> Draft
     ensures { λ r. ⌜ r ≡ empty-draft ⌝ }
 {
     let node = Node::Literal(0);
@@ -102,7 +102,7 @@ impl Draft {
     }
 
     /// The operand that a node becomes: a name itself, anything else a new row.
-    pub fn place(&mut self, node: Node) -> Operand
+    pub(crate) fn place(&mut self, node: Node) -> Operand
         ensures operand { λ r. ⌜ r ≡ placed (now (self .entry)) node .0 ⌝ }
         ensures draft { λ _. ⌜ now (self .exit) ≡ placed (now (self .entry)) node .1 ⌝ }
     {
@@ -117,7 +117,7 @@ impl Draft {
     }
 
     /// Fills the next equation's row.
-    pub fn define(&mut self, head: Atom, place: usize, node: Node)
+    pub(crate) fn define(&mut self, head: Atom, place: usize, node: Node)
         ensures { λ _. ⌜ now (self .exit) ≡ defined (now (self .entry)) head place node ⌝ }
     {
         if self.count < EQUATIONS {

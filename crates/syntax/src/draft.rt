@@ -46,25 +46,30 @@ pub(crate) fn node_of(atom: Atom, place: usize) -> Node
     }
 }
 
-/// An equation: the name or channel that it defines, the place of that, what it says,
-/// and how many operand rows there are after it.
+/// An equation.
 #[derive(Clone, Copy)]
 pub struct Equation {
+    /// The name or channel that it defines.
     pub head: Atom,
+    /// The place of that.
     pub place: usize,
     pub node: Node,
+    /// How many operand rows there are after it.
     pub rows: u8,
 }
 
-/// The equations in text order, then the operand rows in the order in which they arise.
-/// Of more equations the place of the first too many is kept; operand rows past the last are not counted.
+/// The equations in text order, and the operand rows in the order in which they arise.
 #[derive(Clone, Copy)]
 pub struct Draft {
+    /// The equations, of which the first `count` are filled.
     pub equations: [Equation; EQUATIONS],
     pub count: usize,
+    /// The place of the first equation that there is no room for.
     pub excess: Option<usize>,
+    /// The operand rows, of which the first `rows` are filled; those past the last are not counted.
     pub operands: [Node; OPERANDS],
     pub rows: u8,
+    /// The place of the closing `end`.
     pub end: usize,
 }
 

@@ -19,6 +19,7 @@ pub record Levels : Type 0 where
   pub left : ℕ
   pub right : ℕ
 
+-- The levels of the operators between two operands.
 abbrev pub levels : Infix → Levels
 levels Fby = record { own = 1; left = 2; right = 1 }
 levels Asa = record { own = 2; left = 3; right = 3 }
@@ -42,12 +43,15 @@ prefix-level First = 10
 prefix-level Next = 10
 prefix-level Not = 6
 
+-- The level of `if`, which is that of its three operands too.
 abbrev pub choice-level : ℕ
 choice-level = 3
 
+-- The level of what is no operator, and of brackets.
 abbrev pub atom-level : ℕ
 atom-level = 11
 
+-- An expression, with its brackets.
 pub data Tree : Type 0 where
   leaf : Atom → Tree
   bracket : Tree → Tree
@@ -55,6 +59,7 @@ pub data Tree : Type 0 where
   infix′ : Infix → Tree → Tree → Tree
   choice : Tree → Tree → Tree → Tree
 
+-- The own level of an expression.
 abbrev pub level-of : Tree → ℕ
 level-of (leaf a) = atom-level
 level-of (bracket t) = atom-level
@@ -90,6 +95,7 @@ pub record Equation : Type 0 where
   pub head : Atom
   pub tree : Tree
 
+-- The words that an equation is written in.
 abbrev pub equation-words : Equation → List Token
 equation-words e = word.Atom (e .head) ∷ word.Mark Equals ∷ words (e .tree)
 
@@ -98,6 +104,7 @@ abbrev pub body-words : Equation → List Equation → List Token
 body-words e [] = equation-words e ++ word.Mark End ∷ []
 body-words e (f ∷ fs) = equation-words e ++ word.Mark Semicolon ∷ body-words f fs
 
+-- The words of a text: the header, and then its equations.
 abbrev pub text-words : Equation → List Equation → List Token
 text-words e es = word.Mark Compute ∷ word.Mark Output ∷ word.Mark Where ∷ body-words e es
 
@@ -108,20 +115,22 @@ Nameable (atom.Channel k) = Unit {0}
 Nameable (atom.Literal v) = ⊥
 Nameable (atom.Truth b) = ⊥
 
+-- An equation of the grammar.
 abbrev pub Formed : Equation → Type 0
 Formed e = Nameable (e .head) × Fits 1 (e .tree)
 
+-- Each is an equation of the grammar.
 abbrev pub All-formed : List Equation → Type 0
 All-formed [] = Unit {0}
 All-formed (e ∷ es) = Formed e × All-formed es
 
--- ws is a text of the grammar: one or more equations, written out.
+-- The words ws are a text of the grammar: one or more equations, written out.
 pub record Text (ws : List Token) : Type 0 where
   pub first : Equation
   pub others : List Equation
   pub formed : Formed first × All-formed others
   pub written : ws ≡ text-words first others
 
--- some text of the grammar begins with ws
+-- Some text of the grammar begins with ws.
 abbrev pub Viable : List Token → Type 0
 Viable ws = (rest : List Token) × Text (ws ++ rest)

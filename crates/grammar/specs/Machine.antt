@@ -32,6 +32,7 @@ pub data Spot : Type 0 where
   due : List Frame → ℕ → Spot
   read : List Frame → ℕ → Tree → Spot
 
+-- The operator between two operands that a word is.
 abbrev pub as-infix : Token → Option Infix
 as-infix (word.Atom a) = None
 as-infix (word.Infix op) = Some op
@@ -44,17 +45,21 @@ as-infix (word.Mark m) = None
 abbrev pub fitting : ℕ → ℕ → Infix → Option Infix
 fitting n have op = cond (leb n (levels op .own) && leb (levels op .left) have) (Some op) None
 
+-- What f makes of a value that is there.
 abbrev pub and-then : {A B : Type 0} → Option A → (A → Option B) → Option B
 and-then None f = None
 and-then (Some a) f = f a
 
+-- The operator by which an expression of level n goes on, if the word is one and its left side has the level `have`.
 abbrev pub takes : ℕ → ℕ → Token → Option Infix
 takes n have w = and-then (as-infix w) (fitting n have)
 
+-- The operator is taken by the expression t of level n, and its right operand is due; without one the other spot.
 abbrev pub go-on : Option Infix → List Frame → ℕ → Tree → Option Spot → Option Spot
 go-on None fs n t no-more = no-more
 go-on (Some op) fs n t no-more = Some (due (right n op t ∷ fs) (levels op .right))
 
+-- A number for each mark, to tell them apart.
 abbrev pub code : Mark → ℕ
 code Compute = 0
 code Output = 1
@@ -68,6 +73,7 @@ code Close = 8
 code Equals = 9
 code Semicolon = 10
 
+-- Whether the word is the mark.
 abbrev pub is : Mark → Token → Bool
 is k (word.Atom a) = false
 is k (word.Infix op) = false
@@ -80,7 +86,7 @@ is k (word.Mark m) = eqb (code k) (code m)
 abbrev pub only : {A : Type 0} → Mark → Token → A → Option A
 only k w s = cond (is k w) (Some s) None
 
--- w follows the whole expression t: each frame that t completes may go on with w.
+-- The word w follows the whole expression t: each frame that t completes may go on with w.
 abbrev pub close : List Frame → Tree → Token → Option Spot
 close [] t w = None
 close (group n ∷ fs) t w = only Close w (read fs n (bracket t))
@@ -90,6 +96,7 @@ close (test n ∷ fs) t w = only Then w (due (branch n t ∷ fs) choice-level)
 close (branch n c ∷ fs) t w = only Else w (due (other n c t ∷ fs) choice-level)
 close (other n c a ∷ fs) t w = go-on (takes n choice-level w) fs n (choice c a t) (close fs (choice c a t) w)
 
+-- The minus sign stands before an operand too.
 abbrev pub minus : Infix → Option Prefix
 minus Fby = None
 minus Asa = None
@@ -106,10 +113,12 @@ minus Sub = Some Negate
 minus Mul = None
 minus Div = None
 
+-- An operator begins an expression of level n, if its own level allows it, and its operand is due.
 abbrev pub begin-prefix : List Frame → ℕ → Option Prefix → Option Spot
 begin-prefix fs n None = None
 begin-prefix fs n (Some u) = cond (leb n (prefix-level u)) (Some (due (operand n u ∷ fs) (prefix-level u))) None
 
+-- A mark begins an expression of level n: an `if`, or a bracket.
 abbrev pub begin-mark : List Frame → ℕ → Mark → Option Spot
 begin-mark fs n Compute = None
 begin-mark fs n Output = None
@@ -123,6 +132,7 @@ begin-mark fs n Close = None
 begin-mark fs n Equals = None
 begin-mark fs n Semicolon = None
 
+-- The operator before one operand that a word is.
 abbrev pub as-prefix : Token → Option Prefix
 as-prefix (word.Atom a) = None
 as-prefix (word.Infix op) = minus op
@@ -140,6 +150,7 @@ begin fs n word.Next = begin-prefix fs n (Some Next)
 begin fs n word.Not = begin-prefix fs n (Some Not)
 begin fs n (word.Mark m) = begin-mark fs n m
 
+-- The spot after one word more.
 abbrev pub advance : Spot → Token → Option Spot
 advance (due fs n) w = begin fs n w
 advance (read fs n t) w = go-on (takes n (level-of t) w) fs n t (close fs t w)
@@ -152,12 +163,14 @@ pub data State : Type 0 where
   inside : List Equation → Atom → Spot → State
   ended : List Equation → State
 
+-- Whether it may stand on the left of an equation.
 abbrev pub nameable : Atom → Bool
 nameable (atom.Name n) = true
 nameable (atom.Channel k) = true
 nameable (atom.Literal v) = false
 nameable (atom.Truth b) = false
 
+-- The first word of an equation, after some.
 abbrev pub begin-equation : List Equation → Token → Option State
 begin-equation es (word.Atom a) = cond (nameable a) (Some (equals es a)) None
 begin-equation es (word.Infix op) = None
@@ -176,24 +189,29 @@ whole (test n ∷ fs) t = None
 whole (branch n c ∷ fs) t = None
 whole (other n c a ∷ fs) t = whole fs (choice c a t)
 
+-- The expression that is whole at a spot.
 abbrev pub whole-at : Spot → Option Tree
 whole-at (due fs n) = None
 whole-at (read fs n t) = whole fs t
 
+-- A semicolon or `end` after a whole expression.
 abbrev pub end-equation : List Equation → Atom → Option Tree → Token → Option State
 end-equation es a None w = None
 end-equation es a (Some t) w =
     let done = es ++ record { head = a; tree = t } ∷ [] in
     cond (is Semicolon w) (Some (name done)) (cond (is End w) (Some (ended done)) None)
 
+-- The state inside an equation, if there is a spot, or else the other state.
 abbrev pub enter : List Equation → Atom → Option Spot → Option State → Option State
 enter es a None instead = instead
 enter es a (Some s) instead = Some (inside es a s)
 
+-- The state in which these words of the header are still due.
 abbrev pub after-header : List Mark → State
 after-header [] = name []
 after-header (k ∷ ks) = header (k ∷ ks)
 
+-- The state after one word more.
 abbrev pub step : State → Token → Option State
 step (header []) w = None
 step (header (k ∷ ks)) w = only k w (after-header ks)
@@ -202,14 +220,16 @@ step (equals es a) w = only Equals w (inside es a (due [] 1))
 step (inside es a s) w = enter es a (advance s w) (end-equation es a (whole-at s) w)
 step (ended es) w = None
 
+-- The state after some words.
 abbrev pub run : State → List Token → Option State
 run s [] = Some s
 run s (w ∷ ws) = and-then (step s w) (λ s′. run s′ ws)
 
+-- The state before the first word.
 abbrev pub start : State
 start = header (Compute ∷ Output ∷ Where ∷ [])
 
--- w goes into no operand at the right end of the tree
+-- The word w goes into no operand at the right end of the tree.
 abbrev pub Stops : Tree → Token → Type 0
 Stops (leaf a) w = Unit {0}
 Stops (bracket t) w = Unit {0}

@@ -22,6 +22,7 @@ use Rattle.lexer.specs.declared.lexer.Run.the-variants.{Blanks, Number, Name}
 use Rattle.lexer.specs.declared.lexer.Next.{Next}
 use Rattle.lexer.specs.declared.lexer.Next.the-variants.{Word, Finish, Bad}
 
+-- Whether the byte lies between two bytes, both counted.
 abbrev pub within : ℕ → ℕ → ℕ → Bool
 within low high b = leb low b && leb b high
 
@@ -51,11 +52,11 @@ in-run Name Blank = false
 in-run Name Sign = false
 in-run Name Other = false
 
--- the place after the longest run, from p on
+-- The place after the longest run, from p on.
 unfoldable pub run-end : Run → List ℕ → ℕ → ℕ
 run-end kind bs p = p + leading (λ b. in-run kind (class b)) (drop p bs)
 
--- the first place from p on with no blank
+-- The first place from p on with no blank.
 abbrev pub skip : List ℕ → ℕ → ℕ
 skip bs p = run-end Blanks bs p
 
@@ -67,6 +68,7 @@ small b = cond (within 65 90 b) (b + 32) b
 abbrev pub longest : ℕ
 longest = 16
 
+-- The bytes of a name, filled up.
 abbrev pub filled : List ℕ → List ℕ
 filled bs = bs ++ replicate (longest - length bs) 0
 
@@ -82,6 +84,7 @@ pub record Entry : Type 0 where
   pub spelling : List ℕ
   pub means : Token
 
+-- What the first entry with the spelling means.
 abbrev pub find : List Entry → List ℕ → Option Token
 find [] bs = None
 find (e ∷ es) bs = cond (same (e .spelling) bs) (Some (e .means)) (find es bs)
@@ -136,6 +139,7 @@ atoms =
     record { spelling = codes "input7"; means = word.Atom (atom.Channel 7) } ∷
     []
 
+-- The first word, or else the other.
 abbrev pub or-else : Option Token → Option Token → Option Token
 or-else (Some w) other = Some w
 or-else None other = other
@@ -144,6 +148,7 @@ or-else None other = other
 abbrev pub reserved : List ℕ → Option Token
 reserved bs = or-else (find marks bs) (or-else (find infixes bs) (or-else (find prefixes bs) (find atoms bs)))
 
+-- The word of the language, or else a name of the bytes.
 abbrev pub or-name : Option Token → List ℕ → Token
 or-name (Some w) bs = w
 or-name None bs = word.Atom (atom.Name (record { bytes = bs }))
@@ -187,10 +192,12 @@ name-word bs p e = cond (leb (e - p) longest) (Word (named (map small (part bs p
 abbrev pub literal : List ℕ → Option ℕ
 literal bs = cond (leb (value bs) greatest) (Some (value bs)) None
 
+-- The word of a literal that ends before e.
 abbrev pub literal-word : Option ℕ → ℕ → Next
 literal-word (Some v) e = Word (word.Atom (atom.Literal v)) e
 literal-word None e = Bad
 
+-- A word of digits from p up to e.
 abbrev pub number-word : List ℕ → ℕ → ℕ → Next
 number-word bs p e = literal-word (literal (part bs p e)) e
 

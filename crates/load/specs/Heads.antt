@@ -27,6 +27,7 @@ abbrev pub found-from : ℕ → Name → List Equation → Option ℕ
 found-from k n [] = None
 found-from k n (e ∷ es) = cond (defines n (e .head)) (Some k) (found-from (k + 1) n es)
 
+-- The number of the first equation that defines the name.
 abbrev pub found : Name → List Equation → Option ℕ
 found n es = found-from 0 n es
 

@@ -21,6 +21,7 @@ use Rattle.syntax.specs.declared.draft.Operand.{Operand}
 use Rattle.syntax.specs.declared.draft.Operand.the-variants as operand
 use Rattle.load.specs.Heads.{found}
 
+-- The row that was found, or else row 0.
 abbrev pub or-zero : Option ℕ → ℕ
 or-zero None = 0
 or-zero (Some k) = k

@@ -18,13 +18,14 @@ use Rattle.grammar.specs.Machine.{State, name, ended, run, start}
 use Rattle.lexer.specs.Lexer.{skip, scan}
 use Rattle.syntax.specs.Reading.{limit, Lies}
 
--- The number of a refusal, and its place.
+-- The number of a refusal.
 abbrev pub number : Refusal → ℕ
 number TooLong = 1
 number (NoWord p) = 2
 number (Unexpected p) = 3
 number (TooDeep p) = 4
 
+-- The byte of the text that a refusal is about.
 abbrev pub place : Refusal → ℕ
 place TooLong = 0
 place (NoWord p) = p
@@ -87,6 +88,7 @@ pub record Ended (bs : List ℕ) (q : ℕ) : Type 0 where
   pub read : List Equation
   pub way : Way bs (ended read) q 0
 
+-- The header was read: the first equation is due.
 abbrev pub Header-read : {A : Type 0} → List ℕ → ℕ → Result A Refusal → Type 0
 Header-read bs q (Ok u) = Due bs q
 Header-read bs q (Err r) = Refused bs r
@@ -97,10 +99,12 @@ Equation-read bs q (Ok true) = Due bs q
 Equation-read bs q (Ok false) = Ended bs q
 Equation-read bs q (Err r) = Refused bs r
 
+-- All equations were read, and `end`.
 abbrev pub Equations-read : {A : Type 0} → List ℕ → ℕ → Result A Refusal → Type 0
 Equations-read bs q (Ok u) = Ended bs q
 Equations-read bs q (Err r) = Refused bs r
 
+-- Nothing follows the text, or something is refused.
 abbrev pub Finish-read : {A : Type 0} → List ℕ → Result A Refusal → Type 0
 Finish-read bs (Ok u) = Accepted bs
 Finish-read bs (Err r) = Refused bs r

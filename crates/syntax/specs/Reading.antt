@@ -36,6 +36,7 @@ opened-by Close d = d - 1
 opened-by Equals d = d
 opened-by Semicolon d = d
 
+-- How many brackets are open after a word.
 abbrev pub opened : Token → ℕ → ℕ
 opened (word.Atom a) d = d
 opened (word.Infix op) d = d
@@ -81,6 +82,7 @@ pub data Missing (bs : List ℕ) (p : ℕ) (m : Mark) : Refusal → Type 0 where
   halted : {r : Refusal} → Halt bs p r → Missing bs p m r
   other-word : {w : Token} {e : ℕ} → scan bs p ≡ Word w e → is m w ≡ false → Missing bs p m (Unexpected p)
 
+-- The mark was read, or another word stands in its place.
 abbrev pub Marked : {A : Type 0} → List ℕ → ℕ → ℕ → Mark → Result A Refusal → Type 0
 Marked bs p q m (Ok u) = Passed bs p q (word.Mark m)
 Marked bs p q m (Err r) = Missing bs p m r
@@ -122,17 +124,18 @@ abbrev pub Expression-read : List ℕ → ℕ → ℕ → ℕ → ℕ → Result
 Expression-read bs n p d q (Ok x) = Expression bs n p d q (x .level) × Whole bs n q (x .level)
 Expression-read bs n p d q (Err r) = Broken bs (λ fs. due fs n) p d r
 
--- the next operator of an expression of level n whose left side has the level l
+-- The next operator of an expression of level n whose left side has the level l.
 abbrev pub Infix-read : List ℕ → ℕ → ℕ → ℕ → ℕ → Result (Option Infix) Refusal → Type 0
 Infix-read bs n l p q (Ok None) = (p ≡ q) × Whole bs n p l
 Infix-read bs n l p q (Ok (Some op)) = (e : ℕ) × (scan bs p ≡ Word (word.Infix op) e) × (q ≡ skip bs e) × (takes n l (word.Infix op) ≡ Some op) × (p < q)
 Infix-read bs n l p q (Err r) = (r ≡ NoWord p) × (scan bs p ≡ Bad)
 
--- the reader moved on
+-- The reader moved on.
 abbrev pub Moved : {A : Type 0} → ℕ → ℕ → ℕ → Result A Refusal → Type 0
 Moved long p q (Ok x) = (p < q) × (q ≤ long)
 Moved long p q (Err r) = Unit {0}
 
+-- As many brackets are open as before.
 abbrev pub Kept : {A : Type 0} → ℕ → ℕ → Result A Refusal → Type 0
 Kept d c (Ok x) = c ≡ d
 Kept d c (Err r) = Unit {0}

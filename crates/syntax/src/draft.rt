@@ -35,7 +35,7 @@ pub enum Node {
 }
 
 /// The node of a name, a channel, a literal or a truth word at a place.
-pub fn node_of(atom: Atom, place: usize) -> Node
+pub(crate) fn node_of(atom: Atom, place: usize) -> Node
     ensures { λ r. ⌜ r ≡ atom-node atom place ⌝ }
 {
     match atom {
@@ -46,30 +46,35 @@ pub fn node_of(atom: Atom, place: usize) -> Node
     }
 }
 
-/// An equation: the name or channel that it defines, the place of that, what it says,
-/// and how many operand rows there are after it.
+/// An equation.
 #[derive(Clone, Copy)]
 pub struct Equation {
+    /// The name or channel that it defines.
     pub head: Atom,
+    /// The place of that.
     pub place: usize,
     pub node: Node,
+    /// How many operand rows there are after it.
     pub rows: u8,
 }
 
-/// The equations in text order, then the operand rows in the order in which they arise.
-/// Of more equations the place of the first too many is kept; operand rows past the last are not counted.
+/// The equations in text order, and the operand rows in the order in which they arise.
 #[derive(Clone, Copy)]
 pub struct Draft {
+    /// The equations, of which the first `count` are filled.
     pub equations: [Equation; EQUATIONS],
     pub count: usize,
+    /// The place of the first equation that there is no room for.
     pub excess: Option<usize>,
+    /// The operand rows, of which the first `rows` are filled; those past the last are not counted.
     pub operands: [Node; OPERANDS],
     pub rows: u8,
+    /// The place of the closing `end`.
     pub end: usize,
 }
 
 /// The draft of no equation.
-pub fn empty() -> Draft
+pub(crate) fn empty() -> Draft
     ensures { λ r. ⌜ r ≡ empty-draft ⌝ }
 {
     let node = Node::Literal(0);
@@ -102,7 +107,7 @@ impl Draft {
     }
 
     /// The operand that a node becomes: a name itself, anything else a new row.
-    pub fn place(&mut self, node: Node) -> Operand
+    pub(crate) fn place(&mut self, node: Node) -> Operand
         ensures operand { λ r. ⌜ r ≡ placed (now (self .entry)) node .0 ⌝ }
         ensures draft { λ _. ⌜ now (self .exit) ≡ placed (now (self .entry)) node .1 ⌝ }
     {
@@ -117,7 +122,7 @@ impl Draft {
     }
 
     /// Fills the next equation's row.
-    pub fn define(&mut self, head: Atom, place: usize, node: Node)
+    pub(crate) fn define(&mut self, head: Atom, place: usize, node: Node)
         ensures { λ _. ⌜ now (self .exit) ≡ defined (now (self .entry)) head place node ⌝ }
     {
         if self.count < EQUATIONS {

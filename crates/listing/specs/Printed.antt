@@ -76,11 +76,12 @@ pub record Appended (P : Result (List ℕ) Refusal → Type 0) (was now : Texts.
   pub right : P outcome
   pub pushed : Pushed was now (printed outcome)
 
--- The same, where the line of a refusal is still to be appended.
+-- What an outcome leaves where a refusal is answered and not yet printed.
 abbrev pub Done : Result (List ℕ) Refusal → Texts.Text → Texts.Text → Result Unit Refusal → Type 0
 Done (Ok bytes) was now r = (r ≡ Ok tt) × Pushed was now bytes
 Done (Err e) was now r = (r ≡ Err e) × (now ≡ was)
 
+-- An outcome as P says was tried, and the line of a refusal is still to be appended.
 pub record Tried (P : Result (List ℕ) Refusal → Type 0) (was now : Texts.Text) (r : Result Unit Refusal) : Type 0 where
   pub outcome : Result (List ℕ) Refusal
   pub right : P outcome

@@ -1,16 +1,13 @@
 //! A run over a checked table and cells.
 
+use crate::progress::Progress;
 use reading::Reading;
-use table::View;
+use table::Table;
 
-/// A run: how far it has come, over a table and cells.
+/// A run: how far it has come, over a checked table and cells that are lent.
 #[derive(Drop)]
-pub struct Run<'p, 't, 'c, V> {
-    pub(crate) plan: &'p View<'t>,
+pub struct Run<'t, 'c, V> {
+    pub(crate) table: &'t Table,
     pub(crate) cells: &'c mut [Reading<V>],
-    pub(crate) horizon: Option<u32>,
-    /// How many stages are settled.
-    pub(crate) settled: u8,
-    /// How many ticks are made.
-    pub(crate) made: u32,
+    pub(crate) progress: Progress,
 }

@@ -1,22 +1,26 @@
 //! Whole scripts of calls.
 
 ghost use mathlib.Core.Path.{_≡_};
-ghost use Prim.Native.Nat.{ℕ, _≤_, _<_};
 ghost use mathlib.Core.List.{[]};
-ghost use lib.ListN.{length, set};
+ghost use lib.ListN.{length};
+ghost use Rattle.std.specs.Of.Vec.{vec-len, vec-items};
+ghost use Rattle.std.specs.Vec.{made};
 ghost use Rattle.kind.specs.Kinds.{Meaning};
 ghost use Rattle.theory.specs.Says.{Says};
-ghost use Rattle.table.specs.Views.{seen};
+ghost use Rattle.table.specs.Tables.{layout};
 ghost use Rattle.engine.specs.Law.{opened, settledBy, stepped, looked, restarted, AllRight};
-ghost use Rattle.engine.specs.Tells.{Valid, Tells, Lawful, Stays};
+ghost use Rattle.engine.specs.Tells.{Tells, Lawful, Stays};
 use crate::calls::Answer;
 use crate::calls::Call;
 use crate::calls::Refusal;
+use crate::progress::Progress;
 use crate::run::Run;
 use kind::Kind;
 use reading::Reading;
 use source::Source;
-use table::View;
+use std::alloc::AllocError;
+use std::alloc::Global;
+use table::Table;
 
 fn opened<V: Kind>(r: Result<u8, Refusal>) -> Answer<V>
     ensures { λ a. ⌜ a ≡ opened r ⌝ }
@@ -64,27 +68,27 @@ fn restarted<V: Kind>(r: Result<(), Refusal>) -> Answer<V>
     }
 }
 
-impl<'p, 't, 'c, V: Kind> Run<'p, 't, 'c, V> {
-    /// A run over a checked table and cells, with no horizon in force.
-    pub fn new(plan: &'p View<'t>, cells: &'c mut [Reading<V>]) -> Run<'p, 't, 'c, V>
-        ensures valid { λ r. ⌜ Valid r ⌝ }
-        ensures plan { λ r. ⌜ r .plan ≡ plan .entry ⌝ }
-        ensures room { λ r. ⌜ length (now (r .cells)) ≡ length (now (cells .entry)) ⌝ }
+impl<'t, 'c, V: Kind> Run<'t, 'c, V> {
+    /// A run over a checked table and cells, with no horizon in force. The cells may hold anything.
+    pub fn new(table: &'t Table, cells: &'c mut [Reading<V>]) -> Run<'t, 'c, V>
+        ensures table { λ r. ⌜ r .table ≡ table .entry ⌝ }
+        ensures cells { λ r. ⌜ r .cells ≡ cells .entry ⌝ }
         ensures tells { λ r. ⌜ ((k : Meaning V) (says : Says V) → Tells k says r []) ⌝ }
     {
-        Run {
-            plan,
-            cells,
+        let progress = Progress {
             horizon: None,
             settled: 0,
             made: 0,
+        };
+        Run {
+            table,
+            cells,
+            progress,
         }
     }
 
     /// Makes one call.
     pub fn make<S: Source<V>>(&mut self, source: &S, call: Call) -> Answer<V>
-        requires { ⌜ Valid (now self) ⌝ }
-        ensures valid { λ r. ⌜ Valid (now (self .exit)) ⌝ }
         ensures stays { λ r. ⌜ Stays (now (self .entry)) (now (self .exit)) ⌝ }
         ensures law { λ r. ⌜ Lawful (V·Kind .meaning) (S·Source .meaning (now (source .entry)) .says) (now (self .entry)) (now (self .exit)) call r ⌝ }
     {
@@ -98,29 +102,20 @@ impl<'p, 't, 'c, V: Kind> Run<'p, 't, 'c, V> {
     }
 }
 
-/// Writes an answer into its place.
-fn note<V: Kind>(answers: &mut [Answer<V>], i: usize, answer: Answer<V>)
-    requires { ⌜ i < length (now answers) ⌝ }
-    ensures { λ _. ⌜ now (answers .exit) ≡ set (now (answers .entry)) i answer ⌝ }
-{
-    answers[i] = answer;
-}
-
-/// Makes a list of calls on a new run, and writes down the answer of each.
+/// Makes a list of calls on a new run, and answers what each of them answered.
 pub fn replay<V: Kind, S: Source<V>>(
-    plan: &View<'_>,
+    heap: Global,
+    table: &Table,
     source: &S,
     cells: &mut [Reading<V>],
     calls: &[Call],
-    answers: &mut [Answer<V>],
-)
-    requires room { ⌜ length (now calls) ≤ length (now answers) ⌝ }
-    ensures { λ _. ⌜ AllRight (seen (now (plan .entry))) (V·Kind .meaning) (S·Source .meaning (now (source .entry)) .says) (length (now (cells .entry))) (now (calls .entry)) (now (answers .exit)) (length (now (calls .entry))) ⌝ }
+) -> Result<Vec<Answer<V>>, AllocError>
+    ensures { λ r. ⌜ made r (λ v. (vec-len v ≡ length (now (calls .entry))) × AllRight (layout (now (table .entry) .schedule)) (V·Kind .meaning) (S·Source .meaning (now (source .entry)) .says) (length (now (cells .entry))) (now (calls .entry)) (vec-items v) (length (now (calls .entry)))) ⌝ }
 {
-    let mut run = Run::new(plan, cells);
-    for i in 0..calls.len() {
-        let call = calls[i];
-        let answer = run.make(source, call);
-        note(answers, i, answer);
+    let mut run = Run::new(table, cells);
+    let mut answers = Vec::new(heap);
+    for call in calls {
+        answers.push(run.make(source, *call))?;
     }
+    Ok(answers)
 }

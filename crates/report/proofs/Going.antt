@@ -4,7 +4,6 @@ use mathlib.Core.Path.{_≡_, refl, sym, ap, _∙_, subst}
 use mathlib.Core.List.{[], _∷_, _++_}
 use native.Mathlib.Omega.{arith}
 use native.Mathlib.Numerals.{add-one}
-use denote.Ref.{now}
 use Rattle.std.specs.declared.option.Option.the-variants.{Some}
 use Rattle.std.specs.declared.result.Result.{Result}
 use Rattle.std.specs.declared.result.Result.the-variants.{Ok, Err}
@@ -13,7 +12,7 @@ use Rattle.kind.specs.Kinds.{Meaning}
 use Rattle.theory.specs.Says.{Says}
 use Rattle.theory.specs.Rule.{Sheet, Fits}
 use Rattle.table.specs.Layout.{Layout}
-use Rattle.table.specs.Views.{seen}
+use Rattle.table.specs.Tables.{layout}
 use Rattle.engine.specs.declared.run.Run.{Run}
 use Rattle.engine.specs.declared.calls.Call.the-variants.{Open, Settle, Step}
 use Rattle.engine.specs.declared.calls.Answer.{Answer}
@@ -25,7 +24,7 @@ use Rattle.report.specs.Runs.{Going}
 
 module _ {V : Type 0} (k : Meaning V) (says : Says V) (before after : Run V) (stays : Stays before after) where
   pub same-laid : laid after ≡ laid before
-  same-laid = ap (λ p. seen (now p)) (stays .0)
+  same-laid = ap (λ p. layout (p .now .schedule)) (stays .table)
 
   -- A stage is settled.
   pub settled-more : (a : Answer V) → Lawful k says before after Settle a → (H stages ticks : ℕ) → Going k says before H stages ticks →

@@ -38,8 +38,7 @@ pub fn push_run<K: Kind + Shown, S: Source<K>>(
 ) -> Result<(), Refusal>
     ensures { λ r. ⌜ Reported (now (table .entry) .schedule) (K·Kind .meaning) (S·Source .meaning (now (source .entry)) .says) (S·Source .meaning (now (source .entry)) .ticks) (length (now (cells .entry))) (K·Shown .text) (now (out .entry)) (now (out .exit)) r ⌝ }
 {
-    let view = table.view();
-    let mut run = Run::new(&view, cells);
+    let mut run = Run::new(table, cells);
     let horizon = source.ticks();
     let stages = run.open(horizon)?;
     settle_stages(&mut run, source, stages)?;

@@ -1,6 +1,7 @@
 -- The facts that a table carries have one proof each.
 use Prim.Native.Nat.{ℕ, _+_, _<_, _≤_}
 use mathlib.Core.Path.{_≡_}
+use mathlib.Core.Logic.{∥∥₁-elim}
 use native.Mathlib.Bridge.{le-prop}
 use native.Mathlib.Nat.{ℕ-set}
 use Rattle.reading.specs.declared.rows.Row.{Row}
@@ -78,6 +79,9 @@ planned-prop l p q =
       shown = le-prop (p .shown) (q .shown) i;
       short = le-prop (p .short) (q .short) i;
     }
+
+pub opened : (l : Layout) → ∥ Planned l ∥₁ → Planned l
+opened l h = ∥∥₁-elim h (planned-prop l) (λ p. p)
 
 pub down-prop : (m : ℕ) (height stage : ℕ → ℕ) (a : ℕ) (l : Label) (x : ℕ) → IsProp (Down m height stage a l x)
 down-prop m height stage a level x p q = λ i. (le-prop (p .0) (q .0) i, le-prop (p .1) (q .1) i)

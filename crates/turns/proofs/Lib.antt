@@ -3,3 +3,4 @@ pub mod Agree
 pub mod Midturn
 pub mod Mid
 pub mod Settling
+pub mod Searching

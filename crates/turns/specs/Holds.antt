@@ -41,9 +41,3 @@ pub record Midst {V : Type 0} (l : Layout) (position : ℕ → ℕ) (cells : Lis
 -- No cell from the end of the windows on has changed.
 abbrev pub Kept : {A : Type 0} → Layout → List A → List A → Type 0
 Kept {A} l old new = (i : ℕ) → l .windows ≤ i → (d : A) → getD new i d ≡ getD old i d
-
--- In the midst of a stage, when the first k rows of the order have been seen.
-pub record Settling {V : Type 0} (l : Layout) (position : ℕ → ℕ) (cells : List (Reading V)) (σ : Sheet V) (stage k : ℕ) : Type 0 where
-  pub lower : Settled l cells σ (stage - 1)
-  pub here : (r : ℕ) → r < length (l .rows) → isAsa (rowAt (l .rows) r) ≡ true → placeAt l r .stage ≡ stage → position r < k →
-      (t : ℕ) → At cells (placeAt l r .settled) (σ r t)

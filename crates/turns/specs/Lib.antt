@@ -1,2 +1,4 @@
 pub mod Holds
 pub mod Reads
+pub mod Ticks
+pub mod Searches

@@ -8,6 +8,7 @@ ghost use Rattle.theory.specs.Rule.{Sheet, Fits, rowAt};
 ghost use Rattle.table.specs.Layout.{Planned, placeAt, isAsa};
 ghost use Rattle.table.specs.Views.{seen};
 ghost use Rattle.turns.specs.Holds.{At, slot, Holds, Settled, Kept};
+ghost use Rattle.turns.specs.Ticks.{Ticked, Tried};
 ghost use Rattle.turns.specs.Reads.{Has, Left, Right, Third, Within, Ready};
 use crate::decision::decide;
 use crate::decision::heard;
@@ -21,100 +22,100 @@ use window::Window;
 use window::slot;
 
 /// The reading of row `x` at tick `t`, from the row's window.
-pub(crate) fn fetch<V: Kind>(plan: &View<'_>, cells: &[Reading<V>], x: u8, t: u32) -> Reading<V>
-    requires planned { ⌜ Planned (seen (now plan)) ⌝ }
-    requires room { ⌜ now plan .size ≤ length (now cells) ⌝ }
-    requires row { ⌜ x < length (now (now plan .rows)) ⌝ }
-    ensures { λ v. ⌜ Has (seen (now (plan .entry))) (now (cells .entry)) x t v ⌝ }
+pub(crate) fn fetch<V: Kind>(view: &View<'_>, cells: &[Reading<V>], x: u8, t: u32) -> Reading<V>
+    requires planned { ⌜ Planned (seen (now view)) ⌝ }
+    requires room { ⌜ now view .size ≤ length (now cells) ⌝ }
+    requires row { ⌜ x < length (now (now view .rows)) ⌝ }
+    ensures { λ v. ⌜ Has (seen (now (view .entry))) (now (cells .entry)) x t v ⌝ }
 {
-    let place = plan.places[x as usize];
+    let place = view.places[x as usize];
     cells[place.start + slot(t, place.depth)]
 }
 
 /// The first operand of row `r` at tick `t`.
 fn left<V: Kind, S: Source<V>>(
-    plan: &View<'_>,
+    view: &View<'_>,
     source: &S,
     cells: &[Reading<V>],
     row: Row,
     r: u8,
     t: u32,
 ) -> Reading<V>
-    requires planned { ⌜ Planned (seen (now plan)) ⌝ }
-    requires room { ⌜ now plan .size ≤ length (now cells) ⌝ }
-    requires row { ⌜ r < length (now (now plan .rows)) ⌝ ∗ ⌜ row ≡ rowAt (now (now plan .rows)) r ⌝ }
-    requires reads { ⌜ Within (now (now plan .rows)) row ⌝ }
+    requires planned { ⌜ Planned (seen (now view)) ⌝ }
+    requires room { ⌜ now view .size ≤ length (now cells) ⌝ }
+    requires row { ⌜ r < length (now (now view .rows)) ⌝ ∗ ⌜ row ≡ rowAt (now (now view .rows)) r ⌝ }
+    requires reads { ⌜ Within (now (now view .rows)) row ⌝ }
     requires tick { ⌜ t < 2 ^ 31 ⌝ }
-    ensures { λ v. ⌜ Left (seen (now (plan .entry))) (S·Source .meaning (now (source .entry)) .says) (now (cells .entry)) row r t v ⌝ }
+    ensures { λ v. ⌜ Left (seen (now (view .entry))) (S·Source .meaning (now (source .entry)) .says) (now (cells .entry)) row r t v ⌝ }
 {
     match row {
         Row::Channel(c) => heard(source.read(c, t), r, t),
-        Row::Literal(_) | Row::Truth(_) => fetch(plan, cells, r, 0),
-        Row::First(_) if t > 0 => fetch(plan, cells, r, t - 1),
-        Row::Fby(_, y) if t > 0 => fetch(plan, cells, y, t - 1),
-        Row::First(x) | Row::Fby(x, _) => fetch(plan, cells, x, 0),
-        Row::Next(x) => fetch(plan, cells, x, t + 1),
-        Row::Asa(_, _) => cells[plan.places[r as usize].settled],
+        Row::Literal(_) | Row::Truth(_) => fetch(view, cells, r, 0),
+        Row::First(_) if t > 0 => fetch(view, cells, r, t - 1),
+        Row::Fby(_, y) if t > 0 => fetch(view, cells, y, t - 1),
+        Row::First(x) | Row::Fby(x, _) => fetch(view, cells, x, 0),
+        Row::Next(x) => fetch(view, cells, x, t + 1),
+        Row::Asa(_, _) => cells[view.places[r as usize].settled],
         Row::Same(x)
         | Row::If(x, _, _)
         | Row::And(x, _)
         | Row::Or(x, _)
         | Row::Not(x)
-        | Row::Negate(x) => fetch(plan, cells, x, t),
-        Row::Compute(_, x, _) | Row::Relate(_, x, _) => fetch(plan, cells, x, t),
+        | Row::Negate(x) => fetch(view, cells, x, t),
+        Row::Compute(_, x, _) | Row::Relate(_, x, _) => fetch(view, cells, x, t),
     }
 }
 
 /// The second operand of row `r` at tick `t`, or any reading where it has none.
-fn right<V: Kind>(plan: &View<'_>, cells: &[Reading<V>], row: Row, r: u8, t: u32) -> Reading<V>
-    requires planned { ⌜ Planned (seen (now plan)) ⌝ }
-    requires room { ⌜ now plan .size ≤ length (now cells) ⌝ }
-    requires row { ⌜ r < length (now (now plan .rows)) ⌝ }
-    requires reads { ⌜ Within (now (now plan .rows)) row ⌝ }
-    ensures { λ v. ⌜ Right (seen (now (plan .entry))) (now (cells .entry)) row t v ⌝ }
+fn right<V: Kind>(view: &View<'_>, cells: &[Reading<V>], row: Row, r: u8, t: u32) -> Reading<V>
+    requires planned { ⌜ Planned (seen (now view)) ⌝ }
+    requires room { ⌜ now view .size ≤ length (now cells) ⌝ }
+    requires row { ⌜ r < length (now (now view .rows)) ⌝ }
+    requires reads { ⌜ Within (now (now view .rows)) row ⌝ }
+    ensures { λ v. ⌜ Right (seen (now (view .entry))) (now (cells .entry)) row t v ⌝ }
 {
     match row {
         Row::If(_, x, _)
         | Row::And(_, x)
         | Row::Or(_, x)
         | Row::Compute(_, _, x)
-        | Row::Relate(_, _, x) => fetch(plan, cells, x, t),
-        _ => fetch(plan, cells, r, 0),
+        | Row::Relate(_, _, x) => fetch(view, cells, x, t),
+        _ => fetch(view, cells, r, 0),
     }
 }
 
 /// The third operand of row `r` at tick `t`, or any reading where it has none.
-fn third<V: Kind>(plan: &View<'_>, cells: &[Reading<V>], row: Row, r: u8, t: u32) -> Reading<V>
-    requires planned { ⌜ Planned (seen (now plan)) ⌝ }
-    requires room { ⌜ now plan .size ≤ length (now cells) ⌝ }
-    requires row { ⌜ r < length (now (now plan .rows)) ⌝ }
-    requires reads { ⌜ Within (now (now plan .rows)) row ⌝ }
-    ensures { λ v. ⌜ Third (seen (now (plan .entry))) (now (cells .entry)) row t v ⌝ }
+fn third<V: Kind>(view: &View<'_>, cells: &[Reading<V>], row: Row, r: u8, t: u32) -> Reading<V>
+    requires planned { ⌜ Planned (seen (now view)) ⌝ }
+    requires room { ⌜ now view .size ≤ length (now cells) ⌝ }
+    requires row { ⌜ r < length (now (now view .rows)) ⌝ }
+    requires reads { ⌜ Within (now (now view .rows)) row ⌝ }
+    ensures { λ v. ⌜ Third (seen (now (view .entry))) (now (cells .entry)) row t v ⌝ }
 {
     match row {
-        Row::If(_, _, x) => fetch(plan, cells, x, t),
-        _ => fetch(plan, cells, r, 0),
+        Row::If(_, _, x) => fetch(view, cells, x, t),
+        _ => fetch(view, cells, r, 0),
     }
 }
 
 /// What row `r` reads at tick `t`, where the cells hold what it reads.
 fn reading<V: Kind, S: Source<V>>(
-    plan: &View<'_>,
+    view: &View<'_>,
     source: &S,
     cells: &[Reading<V>],
     r: u8,
     t: u32,
 ) -> Reading<V>
-    requires planned { ⌜ Planned (seen (now plan)) ⌝ }
-    requires room { ⌜ now plan .size ≤ length (now cells) ⌝ }
-    requires row { ⌜ r < length (now (now plan .rows)) ⌝ }
+    requires planned { ⌜ Planned (seen (now view)) ⌝ }
+    requires room { ⌜ now view .size ≤ length (now cells) ⌝ }
+    requires row { ⌜ r < length (now (now view .rows)) ⌝ }
     requires tick { ⌜ t < 2 ^ 31 ⌝ }
-    ensures { λ v. ⌜ ((H : ℕ) (σ : Sheet V) → Fits (now (now (plan .entry) .rows)) (V·Kind .meaning) (S·Source .meaning (now (source .entry)) .says) H σ → Ready (seen (now (plan .entry))) (now (cells .entry)) σ (rowAt (now (now (plan .entry) .rows)) r) r t → v ≡ σ r t) ⌝ }
+    ensures { λ v. ⌜ ((H : ℕ) (σ : Sheet V) → Fits (now (now (view .entry) .rows)) (V·Kind .meaning) (S·Source .meaning (now (source .entry)) .says) H σ → Ready (seen (now (view .entry))) (now (cells .entry)) σ (rowAt (now (now (view .entry) .rows)) r) r t → v ≡ σ r t) ⌝ }
 {
-    let row = plan.rows[r as usize];
-    let a = left(plan, source, cells, row, r, t);
-    let b = right(plan, cells, row, r, t);
-    let c = third(plan, cells, row, r, t);
+    let row = view.rows[r as usize];
+    let a = left(view, source, cells, row, r, t);
+    let b = right(view, cells, row, r, t);
+    let c = third(view, cells, row, r, t);
     decide(row, r, t, &a, &b, &c)
 }
 
@@ -139,24 +140,24 @@ fn keep<V: Kind>(place: &Place, cells: &mut [Reading<V>], t: u32, reading: Readi
 
 /// Makes the rows up to a stage at their ticks of one turn.
 pub(crate) fn turn<V: Kind, S: Source<V>>(
-    plan: &View<'_>,
+    view: &View<'_>,
     source: &S,
     cells: &mut [Reading<V>],
     stage: u8,
     turn: u32,
 )
-    requires planned { ⌜ Planned (seen (now plan)) ⌝ }
-    requires room { ⌜ now plan .size ≤ length (now cells) ⌝ }
+    requires planned { ⌜ Planned (seen (now view)) ⌝ }
+    requires room { ⌜ now view .size ≤ length (now cells) ⌝ }
     requires turn { ⌜ turn < 2 ^ 31 ⌝ }
-    ensures holds { λ _. ⌜ ((H : ℕ) (σ : Sheet V) → Fits (now (now (plan .entry) .rows)) (V·Kind .meaning) (S·Source .meaning (now (source .entry)) .says) H σ → Holds (seen (now (plan .entry))) (now (cells .entry)) σ stage turn → Holds (seen (now (plan .entry))) (now (cells .exit)) σ stage (turn + 1)) ⌝ }
-    ensures kept { λ _. ⌜ Kept (seen (now (plan .entry))) (now (cells .entry)) (now (cells .exit)) ⌝ }
+    ensures holds { λ _. ⌜ ((H : ℕ) (σ : Sheet V) → Fits (now (now (view .entry) .rows)) (V·Kind .meaning) (S·Source .meaning (now (source .entry)) .says) H σ → Holds (seen (now (view .entry))) (now (cells .entry)) σ stage turn → Holds (seen (now (view .entry))) (now (cells .exit)) σ stage (turn + 1)) ⌝ }
+    ensures kept { λ _. ⌜ Kept (seen (now (view .entry))) (now (cells .entry)) (now (cells .exit)) ⌝ }
 {
-    for k in 0..plan.order.len() {
-        let r = plan.order[k];
-        let place = plan.places[r as usize];
+    for k in 0..view.order.len() {
+        let r = view.order[k];
+        let place = view.places[r as usize];
         if place.stage <= stage && place.delay <= turn {
             let t = turn - place.delay;
-            let made = reading(plan, source, cells, r, t);
+            let made = reading(view, source, cells, r, t);
             keep(&place, cells, t, made);
         }
     }
@@ -164,41 +165,58 @@ pub(crate) fn turn<V: Kind, S: Source<V>>(
 
 /// Makes the turns from 0 to before `count`, over the rows up to a stage.
 pub(crate) fn turns<V: Kind, S: Source<V>>(
-    plan: &View<'_>,
+    view: &View<'_>,
     source: &S,
     cells: &mut [Reading<V>],
     stage: u8,
     count: u32,
 )
-    requires planned { ⌜ Planned (seen (now plan)) ⌝ }
-    requires room { ⌜ now plan .size ≤ length (now cells) ⌝ }
+    requires planned { ⌜ Planned (seen (now view)) ⌝ }
+    requires room { ⌜ now view .size ≤ length (now cells) ⌝ }
     requires count { ⌜ count ≤ 2 ^ 31 ⌝ }
-    ensures holds { λ _. ⌜ ((H : ℕ) (σ : Sheet V) → Fits (now (now (plan .entry) .rows)) (V·Kind .meaning) (S·Source .meaning (now (source .entry)) .says) H σ → Settled (seen (now (plan .entry))) (now (cells .entry)) σ stage → Holds (seen (now (plan .entry))) (now (cells .exit)) σ stage count) ⌝ }
-    ensures kept { λ _. ⌜ Kept (seen (now (plan .entry))) (now (cells .entry)) (now (cells .exit)) ⌝ }
+    ensures holds { λ _. ⌜ ((H : ℕ) (σ : Sheet V) → Fits (now (now (view .entry) .rows)) (V·Kind .meaning) (S·Source .meaning (now (source .entry)) .says) H σ → Settled (seen (now (view .entry))) (now (cells .entry)) σ stage → Holds (seen (now (view .entry))) (now (cells .exit)) σ stage count) ⌝ }
+    ensures kept { λ _. ⌜ Kept (seen (now (view .entry))) (now (cells .entry)) (now (cells .exit)) ⌝ }
 {
     for j in 0..count {
-        turn(plan, source, cells, stage, j);
+        turn(view, source, cells, stage, j);
     }
 }
 
 /// Makes tick `t` of all rows, and answers the reading of `result`. Before tick 0 the rows of greater leads go ahead.
-pub fn make_tick<V: Kind, S: Source<V>>(
-    plan: &View<'_>,
+fn tick<V: Kind, S: Source<V>>(
+    view: &View<'_>,
     source: &S,
     cells: &mut [Reading<V>],
-    stage: u8,
     t: u32,
 ) -> Reading<V>
-    requires planned { ⌜ Planned (seen (now plan)) ⌝ }
-    requires room { ⌜ now plan .size ≤ length (now cells) ⌝ }
-    requires stage { ⌜ now plan .stages ≤ stage ⌝ }
+    requires planned { ⌜ Planned (seen (now view)) ⌝ }
+    requires room { ⌜ now view .size ≤ length (now cells) ⌝ }
     requires tick { ⌜ t < 100000 ⌝ }
-    ensures { λ v. ⌜ ((H : ℕ) (σ : Sheet V) → Fits (now (now (plan .entry) .rows)) (V·Kind .meaning) (S·Source .meaning (now (source .entry)) .says) H σ → Settled (seen (now (plan .entry))) (now (cells .entry)) σ stage → (0 < t → Holds (seen (now (plan .entry))) (now (cells .entry)) σ stage (t + now (plan .entry) .lag)) → Holds (seen (now (plan .entry))) (now (cells .exit)) σ stage (t + 1 + now (plan .entry) .lag) × (v ≡ σ (now (plan .entry) .result) t)) ⌝ }
+    ensures { λ v. ⌜ Ticked (seen (now (view .entry))) (V·Kind .meaning) (S·Source .meaning (now (source .entry)) .says) (now (cells .entry)) (now (cells .exit)) t v ⌝ }
 {
-    let lag = plan.lag;
+    let lag = view.lag;
+    let stage = view.stages;
     if t == 0 {
-        turns(plan, source, cells, stage, lag);
+        turns(view, source, cells, stage, lag);
     }
-    turn(plan, source, cells, stage, t + lag);
-    fetch(plan, cells, plan.result, t)
+    turn(view, source, cells, stage, t + lag);
+    fetch(view, cells, view.result, t)
+}
+
+/// The most ticks of a run.
+pub(crate) const MOST: u32 = 100000;
+
+/// Makes tick `t`, where there are cells enough and the tick is not too late, and answers the reading of `result`.
+pub fn make_tick<V: Kind, S: Source<V>>(
+    view: &View<'_>,
+    source: &S,
+    cells: &mut [Reading<V>],
+    t: u32,
+) -> Option<Reading<V>>
+    ensures { λ r. ⌜ Tried (seen (now (view .entry))) (V·Kind .meaning) (S·Source .meaning (now (source .entry)) .says) (now (cells .entry)) (now (cells .exit)) t r ⌝ }
+{
+    if cells.len() < view.size || t >= MOST {
+        return None;
+    }
+    Some(tick(view, source, cells, t))
 }

@@ -1,5 +1,5 @@
 use Prim.Native.Nat.{ℕ}
-use Rattle.engine.specs.Tells.{Valid, Stays, laid}
+use Rattle.engine.specs.Tells.{Stays, laid}
 use Rattle.text.specs.Pushed.{Pushed}
 use Rattle.theory.specs.Rule.{Sheet, Fits}
 use Rattle.report.specs.Reports.{linesText}
@@ -8,7 +8,7 @@ use Rattle.report.proofs.ticks.push_ticks.Given as given
 
 abbrev pub Inv-loop : given.InvT-loop
 Inv-loop g l =
-    Valid (l .run) × Stays (l .entry .run) (l .run) ×
+    Stays (l .entry .run) (l .run) ×
     ((σ : Sheet (g .K .Denot)) → Fits (laid (l .entry .run) .rows) (g .K·Kind .meaning) (g .S·Source .meaning (l .source) .says) (l .horizon) σ →
     Going (g .K·Kind .meaning) (g .S·Source .meaning (l .source) .says) (l .entry .run) (l .horizon) 0 0 →
     Going (g .K·Kind .meaning) (g .S·Source .meaning (l .source) .says) (l .run) (l .horizon) 0 (l .counter) ×

@@ -1,4 +1,4 @@
-use mathlib.Core.Path.{_∙_}
+use Rattle.engine.proofs.Records.{stays-more}
 use Rattle.report.proofs.Going.{never-unsettled}
 use Rattle.report.proofs.ticks.settle_stages.Needs as need
 
@@ -7,7 +7,6 @@ returns-in-Break-settle g c =
     let call = c .settle .ensures in
     let inv = c .loop .inv in
     record {
-      valid = call .valid;
-      stays = (call .stays .0 ∙ inv .1 .0, call .stays .1 ∙ inv .1 .1);
-      goes = λ H made going. absurd (never-unsettled _ _ _ _ (call .stays) _ _ (c .in-Break-settle .was tt) (call .law) H _ made (inv .2 H made going));
+      stays = stays-more _ _ _ (inv .0) (call .stays);
+      goes = λ H made going. absurd (never-unsettled _ _ _ _ (call .stays) _ _ (c .in-Break-settle .was tt) (call .law) H _ made (inv .1 H made going));
     }

@@ -12,10 +12,10 @@ use Rattle.turns.proofs.turn.left.Needs.{in-Same, in-Same·2, in-Same·3, in-S
 pub returns-in-Asa : need.returns-in-Asa
 returns-in-Asa g c =
     let e = c .in-Asa .is in
-    let l = seen (c .args .plan .now) in
+    let l = seen (c .args .view .now) in
     let at = c .pre .planned .outside (c .args .r) (c .pre .row .0) (ap isAsa (sym (c .pre .row .1) ∙ e)) in
     let room : placeAt l (c .args .r) .settled < length (c .args .cells .now) = omega arith in
-    rw e (λ d. getD-default _ _ d _ room ∙ sym (c .index-cells-plan .is))
+    rw e (λ d. getD-default _ _ d _ room ∙ sym (c .index-cells-view .is))
 
 pub returns-in-Compute : need.returns-in-Compute
 returns-in-Compute g c = elim (c .in-Compute· .came) [ in-Compute w ↦ search needs | in-Compute·2 w ↦ search needs ]

@@ -7,5 +7,5 @@ pub returns : need.returns
 returns g c =
     λ H σ fits ready.
     c .decide .ensures ∙
-    agrees (seen (c .args .plan .now)) (g .V·Kind .meaning) (g .S·Source .meaning (c .args .source .now) .says) H σ fits (c .args .cells .now) (c .args .r) (c .args .t)
+    agrees (seen (c .args .view .now)) (g .V·Kind .meaning) (g .S·Source .meaning (c .args .source .now) .says) H σ fits (c .args .cells .now) (c .args .r) (c .args .t)
     (c .pre .row) _ _ _ (c .left-a .ensures) (c .right-b .ensures) (c .third-c .ensures) ready

@@ -12,11 +12,11 @@ use Rattle.turns.proofs.turn.turn.Needs as need
 use Rattle.turns.proofs.turn.turn.Needs.{then-place-stage·then-place-turn, else-place-stage}
 
 pub loop-k-holds : need.loop-k-holds
-loop-k-holds g c = (λ p H σ fits h. begins (seen (c .args .plan .now)) p (c .args .cells .now) σ (c .args .stage) (c .args .turn) h, λ i past d. refl)
+loop-k-holds g c = (λ p H σ fits h. begins (seen (c .args .view .now)) p (c .args .cells .now) σ (c .args .stage) (c .args .turn) h, λ i past d. refl)
 
 pub loop-k-again : need.loop-k-again
 loop-k-again g c =
-    let l = seen (c .args .plan .now) in
+    let l = seen (c .args .view .now) in
     let cells = c .loop-k .cells in
     let s = c .args .stage in
     let j = c .args .turn in
@@ -51,7 +51,7 @@ loop-k-again g c =
 
 pub returns : need.returns
 returns g c =
-    let l = seen (c .args .plan .now) in
+    let l = seen (c .args .view .now) in
     let all : c .loop-k .k ≡ length (l .order) = omega arith in
     record {
       holds =

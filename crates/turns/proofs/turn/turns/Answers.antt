@@ -6,7 +6,7 @@ use Rattle.turns.proofs.Settling.{holds-none}
 use Rattle.turns.proofs.turn.turns.Needs as need
 
 pub loop-j-holds : need.loop-j-holds
-loop-j-holds g c = (λ H σ fits h. holds-none (seen (c .args .plan .now)) (c .args .cells .now) σ (c .args .stage) h, λ i past d. refl)
+loop-j-holds g c = (λ H σ fits h. holds-none (seen (c .args .view .now)) (c .args .cells .now) σ (c .args .stage) h, λ i past d. refl)
 
 pub loop-j-again : need.loop-j-again
 loop-j-again g c =
@@ -18,6 +18,6 @@ returns g c =
     record {
       holds =
           λ H σ fits h.
-          subst (λ n. Holds (seen (c .args .plan .now)) (c .loop-j .cells) σ (c .args .stage) n) all (c .loop-j .inv .0 H σ fits h);
+          subst (λ n. Holds (seen (c .args .view .now)) (c .loop-j .cells) σ (c .args .stage) n) all (c .loop-j .inv .0 H σ fits h);
       kept = c .loop-j .inv .1;
     }

@@ -32,10 +32,11 @@ abbrev pub rateText : Rate → List ℕ
 rateText (Rates.Number n) = bitsText (n .bits)
 rateText (Rates.Truth b) = truthText b
 
--- A fault by its number and birth, as `fault 1 row 1 tick 0`.
+-- The fields of a fault: its number and birth.
 abbrev pub faultFields : Fault → List (List ℕ × ℕ)
 faultFields f = (codes "fault ", numberOf (f .number)) ∷ (codes " row ", f .row) ∷ (codes " tick ", f .tick) ∷ []
 
+-- A fault, as `fault 1 row 1 tick 0`.
 abbrev pub faultText : Fault → List ℕ
 faultText f = fieldsText (faultFields f)
 
@@ -48,16 +49,18 @@ readingText text (Read.Fault f) = faultText f
 unfoldable pub lineText : {V : Type 0} → (V → List ℕ) → Line V → List ℕ
 lineText text l = decimal (l .tick) ++ (codes " " ++ (readingText text (l .reading) ++ codes "\n"))
 
--- The first line, as `rows 9 stages 1 lead 0 cells 11`.
+-- The fields of the first line.
 abbrev pub headingFields : Heading → List (List ℕ × ℕ)
 headingFields h = (codes "rows ", h .rows) ∷ (codes " stages ", h .stages) ∷ (codes " lead ", h .lead) ∷ (codes " cells ", h .cells) ∷ []
 
+-- The first line, as `rows 9 stages 1 lead 0 cells 11`.
 abbrev pub headingText : Heading → List ℕ
 headingText h = fieldsText (headingFields h) ++ codes "\n"
 
--- The line of a refusal, as `refused 3 at 0`.
+-- The fields of a refusal.
 abbrev pub refusedFields : Refused → List (List ℕ × ℕ)
 refusedFields r = (codes "refused ", r .number) ∷ (codes " at ", r .place) ∷ []
 
+-- The line of a refusal, as `refused 3 at 0`.
 abbrev pub refusedText : Refused → List ℕ
 refusedText r = fieldsText (refusedFields r) ++ codes "\n"

@@ -1,5 +1,11 @@
 //! The whole list.
 
+ghost use Prim.Native.Nat.{_≤_};
+ghost use mathlib.Core.Path.{_≡_};
+ghost use lib.ListN.{length, getD};
+ghost use Rattle.std.specs.Of.String.{string-bytes};
+ghost use Rattle.std.specs.Vec.{made};
+ghost use Rattle.listing.specs.Printed.{Appended, Benched, Closed, Printed, Runs, Told, Tried};
 use crate::limits::cut_recording;
 use crate::refusal::FromRecording;
 use crate::refusal::FromRun;
@@ -41,9 +47,11 @@ const UNREAD: Fault = Fault {
     tick: 0,
 };
 
-/// The checked table of a text.
-fn read_table(text: &[u8]) -> Result<Table, Refusal> {
-    Ok(load(text)?)
+/// The first byte of a recording, which tells its kind.
+fn kind_code(recording: &[u8]) -> u8
+    ensures { λ r. ⌜ r ≡ getD (now (recording .entry)) 0 0 ⌝ }
+{
+    if recording.len() > 0 { recording[0] } else { 0 }
 }
 
 /// Opens a recording of the kind K, and appends the list of the table's run over it, its gaps filled.
@@ -52,9 +60,22 @@ fn push_recorded<K: Recorded + Shown>(
     recording: &[u8],
     cells: &mut [Reading<K>],
     out: &mut Text,
-) -> Result<(), Refusal> {
+) -> Result<(), Refusal>
+    requires { ⌜ now table .schedule .size ≤ length (now cells) ⌝ }
+    ensures { λ r. ⌜ Tried (Runs (K·Kind .meaning) (K·Shown .text) (K·Recorded .code) (now (table .entry) .schedule) (now (recording .entry))) (now (out .entry)) (now (out .exit)) r ⌝ }
+{
     let source = Hold::over(Recording::<K>::open(recording)?);
-    Ok(push_run(table, &source, cells, out)?)
+    push_run(table, &source, cells, out)?;
+    Ok(())
+}
+
+/// Appends the line of a refusal, if there is one.
+fn push_refusal(tried: Result<(), Refusal>, out: &mut Text)
+    ensures { λ _. ⌜ Closed tried (now (out .entry)) (now (out .exit)) ⌝ }
+{
+    if let Err(refusal) = tried {
+        refusal.line().push_to(out);
+    }
 }
 
 /// Appends the list of a table over a recording of the kind K, or the line of a refusal.
@@ -63,11 +84,12 @@ fn push_list<K: Recorded + Shown + Clone>(
     table: &Table,
     recording: &[u8],
     out: &mut Text,
-) -> Result<(), AllocError> {
+) -> Result<(), AllocError>
+    ensures { λ r. ⌜ made r (λ _. Appended (Runs (K·Kind .meaning) (K·Shown .text) (K·Recorded .code) (now (table .entry) .schedule) (now (recording .entry))) (now (out .entry)) (now (out .exit))) ⌝ }
+{
     let mut cells = vec![in heap; Reading::<K>::Fault(UNREAD); table.schedule.size]?;
-    if let Err(refusal) = push_recorded(table, recording, &mut cells, out) {
-        refusal.line().push_to(out);
-    }
+    let tried = push_recorded(table, recording, &mut cells, out);
+    push_refusal(tried, out);
     Ok(())
 }
 
@@ -77,19 +99,34 @@ fn push_table(
     table: &Table,
     recording: &[u8],
     out: &mut Text,
-) -> Result<(), AllocError> {
-    match recording.first() {
-        Some(&RATE_CODE) => push_list::<Rate>(heap, table, recording, out),
-        _ => push_list::<Whole>(heap, table, recording, out),
+) -> Result<(), AllocError>
+    ensures { λ r. ⌜ made r (λ _. Appended (Benched (now (table .entry) .schedule) (now (recording .entry))) (now (out .entry)) (now (out .exit))) ⌝ }
+{
+    if kind_code(recording) == RATE_CODE {
+        push_list::<Rate>(heap, table, recording, out)
+    } else {
+        push_list::<Whole>(heap, table, recording, out)
+    }
+}
+
+/// Appends the list of a text over a recording, or the line of the first refusal.
+fn push_text(heap: Global, text: &[u8], recording: &[u8], out: &mut Text) -> Result<(), AllocError>
+    ensures { λ r. ⌜ made r (λ _. Told (now (text .entry)) (now (recording .entry)) (now (out .entry)) (now (out .exit))) ⌝ }
+{
+    match load(text) {
+        Ok(table) => push_table(heap, &table, recording, out),
+        Err(refusal) => {
+            Refusal::from(refusal).line().push_to(out);
+            Ok(())
+        }
     }
 }
 
 /// The list of a text over a recording, or the line of the first refusal. It fails only for want of memory.
-pub fn list(heap: Global, text: &[u8], recording: &[u8]) -> Result<String, AllocError> {
+pub fn list(heap: Global, text: &[u8], recording: &[u8]) -> Result<String, AllocError>
+    ensures { λ r. ⌜ made r (λ s. Printed (now (text .entry)) (now (recording .entry)) (string-bytes s)) ⌝ }
+{
     let mut out = Text::new(heap);
-    match read_table(text) {
-        Ok(table) => push_table(heap, &table, cut_recording(recording), &mut out)?,
-        Err(refusal) => refusal.line().push_to(&mut out),
-    }
+    push_text(heap, text, cut_recording(recording), &mut out)?;
     out.finish()
 }

@@ -1,27 +1,17 @@
 -- Numbers and places of refusals.
 use Prim.Native.Nat.{ℕ}
-use Rattle.engine.specs.declared.calls.Refusal.{Refusal}
-use Rattle.engine.specs.declared.calls.Refusal.the-variants as Calls
+use Rattle.engine.specs.Refusals as Calls
 use Rattle.format.specs.declared.lines.Refused.{Refused}
 use Rattle.load.specs.Refusals as Texts
 use Rattle.source.specs.Recordings as Recordings
 use Rattle.listing.specs.declared.refusal.Refusal as Own
 use Rattle.listing.specs.declared.refusal.Refusal.the-variants.{Text, Recording, Run}
 
--- The number of a refused call.
-abbrev pub callNumber : Refusal → ℕ
-callNumber Calls.NoHorizon = 13
-callNumber Calls.Horizon = 14
-callNumber Calls.Cells = 15
-callNumber Calls.StageLeft = 16
-callNumber Calls.Over = 17
-callNumber Calls.Place = 18
-
 -- The number of a refusal.
 abbrev pub numberOf : Own.Refusal → ℕ
 numberOf (Text r) = Texts.number r
 numberOf (Recording e) = Recordings.numberOf e
-numberOf (Run r) = callNumber r
+numberOf (Run r) = Calls.numberOf r
 
 -- The place of a refusal, which is 0 for a call of the run.
 abbrev pub placeOf : Own.Refusal → ℕ

@@ -22,7 +22,7 @@ impl Refusal {
         match self {
             Refusal::Text(refusal) => refusal.number(),
             Refusal::Recording(error) => error.number(),
-            Refusal::Run(refusal) => refusal as u8,
+            Refusal::Run(refusal) => refusal.number(),
         }
     }
 

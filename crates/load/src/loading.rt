@@ -27,7 +27,7 @@ pub fn load(text: &[u8]) -> Result<Table, Refusal>
     check_uses(equations, operands)?;
     let rows = table_rows(equations, operands);
     match check_rows(&rows[..equations.len() + operands.len()], result) {
-        Some(table) => Ok(table),
-        None => Err(Refusal::Ring),
+        Ok(table) => Ok(table),
+        Err(_) => Err(Refusal::Ring),
     }
 }

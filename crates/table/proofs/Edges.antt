@@ -19,7 +19,12 @@ use Rattle.reading.specs.declared.rows.Row.the-variants.{Literal, Truth, And, O
 use Rattle.theory.specs.Rule.{rowAt}
 use Rattle.theory.specs.Potential.{edges, Label, level}
 use Rattle.graph.specs.declared.edges.Edge.{Edge}
-use Rattle.graph.specs.Labels.{Within, Outside}
+use Rattle.std.specs.declared.result.Result.the-variants.{Err}
+use Rattle.graph.specs.declared.plans.Defect.{Defect}
+use Rattle.graph.specs.declared.plans.Defect.the-variants.{Malformed, Ring}
+use Rattle.graph.specs.Plans.{Analysed}
+use Rattle.graph.specs.Labels.{Within, Outside, SomeOtherRing}
+use Rattle.table.specs.Outcomes.{Tabled, Judged-rows}
 use Rattle.table.specs.Edges.{edgeOf, rowEdges, firstEdges, tableEdges, Closed}
 
 pub has-map : {X Y : Type 0} (f : X → Y) (xs : List X) (x : X) → Has xs x → Has (map f xs) (f x)
@@ -45,12 +50,14 @@ pub within-all : (n : ℕ) (r : ℕ) (es : List (Label × ℕ)) → r < n → Al
 within-all n r [] h a = tt
 within-all n r (e ∷ es) h a = ((h, a .0), within-all n r es h (a .1))
 
-pub edges-within : (rows : List Row) → Closed rows → length rows ≤ 64 → Within 64 (tableEdges rows)
-edges-within rows closed few e h =
-    let w = all-has (λ e. (e .from < length rows) × (e .to < length rows)) (tableEdges rows) e
+pub edges-inside : (rows : List Row) → Closed rows → Within (length rows) (tableEdges rows)
+edges-inside rows closed e h =
+    all-has (λ e. (e .from < length rows) × (e .to < length rows)) (tableEdges rows) e
     (all-first (λ e. (e .from < length rows) × (e .to < length rows)) rows (length rows)
-    (λ r k. within-all (length rows) r (edges (rowAt rows r)) k (closed r k))) h in
-    (omega (arith, w .0), omega (arith, w .1))
+    (λ r k. within-all (length rows) r (edges (rowAt rows r)) k (closed r k))) h
+
+pub edges-within : (rows : List Row) → Closed rows → length rows ≤ 64 → Within 64 (tableEdges rows)
+edges-within rows closed few e h = let w = edges-inside rows closed e h in (omega (arith, w .0), omega (arith, w .1))
 
 -- Edges that were added one by one.
 pub added-two : {X : Type 0} (l m n : List X) (a b : X) → m ≡ l ++ a ∷ [] → n ≡ m ++ b ∷ [] → n ≡ l ++ a ∷ b ∷ []
@@ -82,3 +89,22 @@ pub closed-when : (rows : List Row) (es : List Edge) (b : Bool) → es ≡ table
     → When b (Closed rows) (Outside (length rows) (tableEdges rows))
 closed-when rows es true e h = closed-from-within rows (subst (Within (length rows)) e h)
 closed-when rows es false e h = subst (Outside (length rows)) e h
+
+-- Rows that read only each other are not malformed.
+pub tabled-err : (rows : List Row) (result : ℕ) (es : List Edge) → es ≡ tableEdges rows → length es ≤ 192 → Closed rows → length rows ≤ 64 → result < length rows →
+    (d : Defect) → Analysed es result (Err d) → Tabled rows result (Err d)
+tabled-err rows result es e few closed low is Ring h = subst SomeOtherRing e h
+tabled-err rows result es e few closed low is Malformed (inl many) = absurd (omega arith)
+tabled-err rows result es e few closed low is Malformed (inr (inl past)) = absurd (omega arith)
+tabled-err rows result es e few closed low is Malformed (inr (inr out)) =
+    let w = edges-within rows closed low (out .0) (subst (λ x. Has x (out .0)) e (out .1)) in
+    absurd (elim (out .2) [ inl a ↦ (let k = w .0 in omega arith) | inr b ↦ (let k = w .1 in omega arith) ])
+
+-- So the check of such rows is refused only for a ring.
+pub ring-only : (rows : List Row) (result : ℕ) → Closed rows → length rows ≤ 64 → result < length rows → (d : Defect) → Judged-rows rows result (Err d) → SomeOtherRing (tableEdges rows)
+ring-only rows result closed low is Ring h = h
+ring-only rows result closed low is Malformed (inl many) = absurd (omega arith)
+ring-only rows result closed low is Malformed (inr (inl past)) = absurd (omega arith)
+ring-only rows result closed low is Malformed (inr (inr out)) =
+    let w = edges-inside rows closed (out .0) (out .1) in
+    absurd (elim (out .2) [ inl a ↦ (let k = w .0 in omega arith) | inr b ↦ (let k = w .1 in omega arith) ])

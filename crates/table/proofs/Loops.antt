@@ -17,7 +17,7 @@ use Rattle.theory.specs.Potential.{Label, level, ahead, back, beyond, edges}
 use Rattle.graph.specs.declared.plans.Plan.{Plan}
 use Rattle.graph.specs.Labels.{plus, minus, infinite}
 use Rattle.graph.specs.Depths.{asks}
-use Rattle.graph.specs.Orders.{Listed, InStep}
+use Rattle.table.specs.Orders.{Listed, InStep}
 use Rattle.graph.specs.Plans as graph
 use Rattle.table.specs.declared.place.Place.{Place}
 use Rattle.table.specs.declared.schedule.Schedule.{Schedule}

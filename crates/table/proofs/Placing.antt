@@ -15,7 +15,7 @@ use Rattle.graph.specs.declared.plans.Plan.{Plan}
 use Rattle.table.specs.declared.place.Place.{Place}
 use Rattle.table.specs.Layout.{noPlace}
 use Rattle.table.specs.Tables.{held, asas, placeOf, Placed, Inverse}
-use Rattle.graph.specs.Orders.{Listed}
+use Rattle.table.specs.Orders.{Listed}
 use Rattle.table.proofs.Positions.{position, position-at}
 
 pub asas-more : (rows : List Row) (i : ℕ) → i < length rows → asas (take (i + 1) rows) ≡ asas (take i rows) + held (getD rows i (Literal 0))

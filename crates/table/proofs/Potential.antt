@@ -87,8 +87,3 @@ sound rows result t c =
 
 pub checked-determines : (V : Type 0) (rows : List Row) (result : ℕ) (t : Schedule) → Checked rows result t → Determined-rows V rows
 checked-determines V rows result t c = subst (Determined-rows V) (c .rows-are) (sound-determines t V ∣ sound rows result t c ∣₁)
-
-pub decided : (V : Type 0) (rows : List Row) (result : ℕ) (o : Option Table) (b : Bool) → b ≡ isSome o
-    → Cases o (SomeOtherRing (tableEdges rows)) (λ t. Checked rows result (t .schedule)) → When b (Determined-rows V rows) (SomeOtherRing (tableEdges rows))
-decided V rows result (Some t) b e h = rw e (checked-determines V rows result (t .schedule) h)
-decided V rows result None b e h = rw e h

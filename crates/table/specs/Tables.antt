@@ -8,7 +8,7 @@ use Rattle.std.specs.shelf.Lists.{sum, countBy}
 use Rattle.reading.specs.declared.rows.Row.{Row}
 use Rattle.graph.specs.declared.plans.Plan.{Plan}
 use Rattle.graph.specs.Plans as graph
-use Rattle.graph.specs.Orders.{Listed, InStep}
+use Rattle.table.specs.Orders.{Listed, InStep}
 use Rattle.table.specs.declared.place.Place.{Place}
 use Rattle.table.specs.declared.schedule.Schedule.{Schedule}
 use Rattle.table.specs.Edges.{tableEdges, Closed}

@@ -4,23 +4,24 @@ ghost use mathlib.Core.Path.{_≡_};
 ghost use mathlib.Core.List.{List};
 ghost use Prim.Native.Nat.{ℕ, _+_, _^_, _<_, _≤_};
 ghost use lib.ListN.{length, getD, take};
-ghost use Rattle.std.specs.Options.{Cases};
 ghost use Rattle.std.specs.Orderings.{When};
 ghost use Rattle.graph.specs.declared.edges.Edge.{Edge};
-ghost use Rattle.graph.specs.Labels.{Ranked, Outside, SomeOtherRing};
-ghost use Rattle.graph.specs.Orders.{Listed, InStep};
+ghost use Rattle.graph.specs.Labels.{Ranked, Outside};
+ghost use Rattle.table.specs.Orders.{Listed, InStep};
 ghost use Rattle.graph.specs.Plans.{Planned};
 ghost use Rattle.table.specs.Edges.{tableEdges, Closed};
 ghost use Rattle.table.specs.Tables.{Greatest, held, asas, Placed, Inverse, Checked};
+ghost use Rattle.table.specs.Outcomes.{Tabled, Judged-rows};
+use crate::cells::count_cells;
 use crate::listing::list_edges;
+use crate::orders::order_rows;
 use crate::place::Place;
 use crate::schedule::Schedule;
 use crate::table::Table;
+use graph::Defect;
 use graph::Plan;
 use graph::analyse;
-use graph::count_cells;
 use graph::join_rows;
-use graph::order_rows;
 use reading::Row;
 
 /// The rows, in an array with room for as many as a table may have.
@@ -157,7 +158,7 @@ fn shorten_order(order: &[usize]) -> [u8; 64]
 }
 
 /// Whether every row that is read stands in the table.
-pub fn is_closed(rows: &[Row]) -> bool
+fn is_closed(rows: &[Row]) -> bool
     requires { ⌜ length (now rows) ≤ 64 ⌝ }
     ensures { λ r. ⌜ When r (Closed (now (rows .entry))) (Outside (length (now (rows .entry))) (tableEdges (now (rows .entry)))) ⌝ }
 {
@@ -194,15 +195,34 @@ fn schedule_rows(rows: &[Row], result: u8, plan: Plan) -> Schedule
     }
 }
 
-/// The checked table of the rows, or none where some ring is not negative.
-pub fn check_rows(rows: &[Row], result: u8) -> Option<Table>
+/// The checked table of rows that read only each other.
+fn table_of(rows: &[Row], result: u8) -> Result<Table, Defect>
     requires few { ⌜ length (now rows) ≤ 64 ⌝ }
     requires closed { ⌜ Closed (now rows) ⌝ }
     requires result_within { ⌜ result < length (now rows) ⌝ }
-    ensures { λ r. ⌜ Cases r (SomeOtherRing (tableEdges (now (rows .entry)))) (λ t. Checked (now (rows .entry)) result (t .schedule)) ⌝ }
+    ensures { λ r. ⌜ Tabled (now (rows .entry)) result r ⌝ }
 {
     let list = list_edges(rows);
     let plan = analyse(&list.edges[..list.count], result as usize)?;
     let schedule = schedule_rows(rows, result, plan);
-    Some(Table { schedule })
+    Ok(Table { schedule })
+}
+
+/// The most rows of a table.
+const ROWS: usize = 64;
+
+/// The checked table of the rows, of which one is that of `result`.
+pub fn check_rows(rows: &[Row], result: u8) -> Result<Table, Defect>
+    ensures { λ r. ⌜ Judged-rows (now (rows .entry)) result r ⌝ }
+{
+    if rows.len() > ROWS {
+        return Err(Defect::Malformed);
+    }
+    if result as usize >= rows.len() {
+        return Err(Defect::Malformed);
+    }
+    if !is_closed(rows) {
+        return Err(Defect::Malformed);
+    }
+    table_of(rows, result)
 }

@@ -72,7 +72,7 @@ impl EdgeList {
 }
 
 /// The edges of all rows.
-pub fn list_edges(rows: &[Row]) -> EdgeList
+pub(crate) fn list_edges(rows: &[Row]) -> EdgeList
     requires { ⌜ length (now rows) ≤ 64 ⌝ }
     ensures listed { λ r. ⌜ listed r ≡ tableEdges (now (rows .entry)) ⌝ }
     ensures few { λ r. ⌜ r .count ≤ 192 ⌝ }

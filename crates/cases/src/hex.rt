@@ -91,7 +91,7 @@ impl Decoder {
 }
 
 /// The bytes that are written in hexadecimal.
-pub fn decode(heap: Global, digits: &str) -> Result<Vec<u8>, AllocError> {
+pub(crate) fn decode(heap: Global, digits: &str) -> Result<Vec<u8>, AllocError> {
     let mut decoder = Decoder::new(heap);
     for c in digits.bytes() {
         decoder.take(c)?;

@@ -6,22 +6,40 @@ ghost use Prim.Native.Nat.{_<_};
 ghost use lib.ListN.{length};
 ghost use Rattle.std.specs.Results.{isOk};
 ghost use Rattle.theory.specs.Says.{Says};
+ghost use Rattle.table.specs.Views.{seen};
 ghost use Rattle.turns.specs.Holds.{At};
 ghost use Rattle.engine.specs.declared.calls.Call.the-variants.{Open, Settle, Step, Look, Restart};
-ghost use Rattle.engine.specs.Law.{opened, settledBy, stepped, looked, restarted};
-ghost use Rattle.engine.specs.Tells.{Lawful, Renewed, Stays};
+ghost use Rattle.engine.specs.Cells.{cellOf, Own, Keeps};
+ghost use Rattle.engine.specs.Law.{Past, opened, settledBy, stepped, looked, restarted};
+ghost use Rattle.engine.specs.Tells.{laid, Tells, Lawful, Renewed, Stays};
 use crate::calls::Refusal;
 use crate::progress::Progress;
 use crate::run::Run;
 use kind::Kind;
 use reading::Reading;
+use reading::Row;
 use source::Source;
+use table::View;
 use turns::make_tick;
 use turns::settle_stage;
 use window::slot;
 
 /// The greatest horizon.
 const FARTHEST: u32 = 100000;
+
+/// The cell of a row, if it is an `asa` row.
+fn cell_of(view: &View<'_>, row: u8) -> Option<usize>
+    ensures { λ r. ⌜ r ≡ cellOf (seen (now (view .entry))) row ⌝ }
+{
+    if row as usize >= view.rows.len() {
+        return None;
+    }
+    let own = view.rows[row as usize];
+    match own {
+        Row::Asa(_, _) => Some(view.places[row as usize].settled),
+        _ => None,
+    }
+}
 
 impl<'t, 'c, V: Kind> Run<'t, 'c, V> {
     /// Forgets the ticks made and keeps what is settled.
@@ -158,5 +176,15 @@ impl<'t, 'c, V: Kind> Run<'t, 'c, V> {
             return Err(Refusal::Cells);
         }
         Ok(Some(self.cell(place.start + slot(tick, place.depth))))
+    }
+
+    /// The cell that an `asa` row has for its own: there its reading stands from its settle to the next accepted open.
+    pub fn settled_cell(&self, row: u8) -> Option<usize>
+        ensures value { λ r. ⌜ r ≡ cellOf (laid (now (self .entry))) row ⌝ }
+        ensures own { λ r. ⌜ Own (laid (now (self .entry))) row r ⌝ }
+        ensures keeps { λ r. ⌜ ((says : Says V) (past : Past V) → Tells (V·Kind .meaning) says (now (self .entry)) past → Keeps (laid (now (self .entry))) (V·Kind .meaning) says (now (now (self .entry) .cells)) past row r) ⌝ }
+    {
+        let view = self.table.view();
+        cell_of(&view, row)
     }
 }

@@ -37,7 +37,7 @@ is-searching l stage r a e = and-from _ _ a (eq-eqb _ _ e)
 
 module _ (l : Layout) (p : Planned l) where
   -- `asa` rows have cells of their own.
-  cells-differ : (q r : ℕ) → q < length (l .rows) → r < length (l .rows) → q ≢ r → isAsa (rowAt (l .rows) q) ≡ true → isAsa (rowAt (l .rows) r) ≡ true →
+  pub cells-differ : (q r : ℕ) → q < length (l .rows) → r < length (l .rows) → q ≢ r → isAsa (rowAt (l .rows) q) ≡ true → isAsa (rowAt (l .rows) r) ≡ true →
       placeAt l q .settled ≢ placeAt l r .settled
   cells-differ q r iq ir ne qa ra e =
       elim (cases-lt q r) [

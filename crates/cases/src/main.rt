@@ -1,6 +1,8 @@
 //! Prints the list of each case in `cases.txt`. A case stands on three lines: its name, its text and its recording,
 //! the latter two in hexadecimal.
 
+#![tactic(auto)]
+
 mod hex;
 
 use crate::hex::decode;

@@ -1,5 +1,7 @@
 //! How values, readings and the lines of a list are printed.
 
+#![tactic(auto)]
+
 mod lines;
 mod values;
 

@@ -1,5 +1,7 @@
 //! The grammar of the language: the levels of its operators, and a machine that decides which words make a text.
 
+#![tactic(auto)]
+
 ghost use Rattle.grammar.specs.Decision.{Decides};
 
 mod levels;

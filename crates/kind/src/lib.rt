@@ -1,5 +1,7 @@
 //! The kinds of values that equations compute with: whole numbers and rates.
 
+#![tactic(auto)]
+
 mod bounded;
 mod finite;
 mod kinds;

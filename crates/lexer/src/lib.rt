@@ -1,5 +1,7 @@
 //! Cuts a text into words.
 
+#![tactic(auto)]
+
 mod lexer;
 mod token;
 

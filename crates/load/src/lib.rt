@@ -1,5 +1,7 @@
 //! From the bytes of a text to a checked table.
 
+#![tactic(auto)]
+
 mod heads;
 mod loading;
 mod refusal;

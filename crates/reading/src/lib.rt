@@ -1,5 +1,7 @@
 //! What equations compute: readings and faults, and the rows that they are made of.
 
+#![tactic(auto)]
+
 mod faults;
 mod rows;
 

@@ -1,5 +1,7 @@
 //! The list of a run: a heading, and a line for each tick.
 
+#![tactic(auto)]
+
 mod runs;
 mod ticks;
 

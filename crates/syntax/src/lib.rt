@@ -1,5 +1,7 @@
 //! From the bytes of a text to a table of its equations.
 
+#![tactic(auto)]
+
 ghost use Rattle.syntax.specs.Judgement.{Single};
 
 mod draft;

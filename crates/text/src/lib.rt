@@ -1,5 +1,7 @@
 //! Text that is put together piece by piece.
 
+#![tactic(auto)]
+
 mod fields;
 mod numbers;
 mod text;

@@ -1,5 +1,7 @@
 //! What a table of rows means: its sheets and its least solution. The functions only carry theorems.
 
+#![tactic(auto)]
+
 ghost use Rattle.theory.specs.Determined.{Determines};
 ghost use Rattle.theory.specs.Laws.{OneSheet, LeastSolution};
 ghost use Rattle.theory.specs.Potential.{PotentialRanks, LeadsBound, KeyOrders, EdgesCover};

@@ -1,6 +1,8 @@
 //! Reads equations from `bench.eq` and a recording from `bench.trc` in the current folder, and prints the list of
 //! their run, or the line of a refusal.
 
+#![tactic(auto)]
+
 use listing::list;
 use std::fs::File;
 use std::io;

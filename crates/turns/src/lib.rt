@@ -1,5 +1,7 @@
 //! The turns of the loop over a checked table: one reading of each row a turn, and the search of `asa` rows.
 
+#![tactic(auto)]
+
 mod decision;
 mod settle;
 mod turn;

@@ -7,4 +7,4 @@ pub returns-then-count-eq0 : goal.returns-then-count-eq0
 returns-then-count-eq0 t c = pushed-is _ _ _ _ (hex-none c.args.count c.args.n (omega arith)) (pushed_none _)
 
 pub returns : goal.returns
-returns t c = pushed-is _ _ _ _ (hex-more c.args.count c.args.n c.hex-digit.result (omega arith) c.hex-digit.ensures) (pushed_then _ _ _ _ _ c.push-hex-digits.ensures c.push-ascii.ensures)
+returns t c = pushed-is _ _ _ _ (hex-more c.args.count c.args.n c.hex_digit.result (omega arith) c.hex_digit.ensures) (pushed_then _ _ _ _ _ c.push_hex_digits.ensures c.push_ascii.ensures)

@@ -3,4 +3,4 @@ use Rattle.text.proofs.text.Text.push_hex.Goals as goal
 
 pub returns : goal.returns
 unfolding bits_text
-returns c = c.push-hex-digits.ensures
+returns c = c.push_hex_digits.ensures

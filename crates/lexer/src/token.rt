@@ -1,23 +1,9 @@
 //! What a text is made of.
 
-ghost use Rattle.std.specs.Prelude.{◌≡◌, Decides};
-ghost use Rattle.std.specs.Cmp.Rules.{comparing};
-ghost use Rattle.std.proofs.Common.{rules};
-
 /// A name, its letters small, filled up with zeros.
-#[derive(Clone, Copy)]
+#[derive(Clone, Copy, PartialEq)]
 pub struct Name {
     pub bytes: [u8; 16],
-}
-
-impl PartialEq<Name> for Name {
-    ghost equals = { λ x y r. Decides r (x.bytes ≡ y.bytes) };
-
-    ghost laws = { Prim.search (comparing, rules) };
-
-    fn eq(&self, other: &Name) -> bool {
-        self.bytes == other.bytes
-    }
 }
 
 /// What stands by itself as an expression.

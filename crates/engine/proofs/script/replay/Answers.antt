@@ -21,7 +21,7 @@ loop-call-preserved g c =
     let i = c.loop-call.call-index in
     let a = c.make.result in
     let inv = c.loop-call.invariant in
-    let new = c.in-ok-push.ensures.items in
+    let new = c.in_ok-push.ensures.items in
     let long : length answers ≡ i = sym c.loop-call.answers.ok.0 ∙ inv.0 in
     let l = laid c.new-run.result in
     let room = length c.new-run.result.cells.now in
@@ -30,14 +30,14 @@ loop-call-preserved g c =
     let right : Right l k says room (record_of calls answers i) (get_or calls i (Open 0)) a =
     subst (λ x. Right x k says room (record_of calls answers i) (get_or calls i (Open 0)) a) same
     (subst (λ x. Right (laid c.loop-call.run) k says x (record_of calls answers i) (get_or calls i (Open 0)) a) inv.1.room law.0) in (
-      c.in-ok-push.ensures.len ∙ ap (λ n. n + 1) inv.0,
+      c.in_ok-push.ensures.len ∙ ap (λ n. n + 1) inv.0,
       stays-more _ _ _ inv.1 c.make.ensures.stays,
       subst (λ x. Tells k says c.make.new.self (record_of calls x (i + 1))) (sym new) (tells_more calls answers a k says c.make.new.self i long law.1),
       subst (λ x. AllRight l k says room calls x (i + 1)) (sym new) (all_more calls answers a l k says room i long inv.3 right),
     )
 
-pub returns-in-err-push : goal.returns-in-err-push
-returns-in-err-push g c = IfOk-from_err _ _ c.from-residual.ensures.0
+pub returns-in_err-push : goal.returns-in_err-push
+returns-in_err-push g c = IfOk-from_err _ _ c.from_residual.ensures.0
 
 pub returns : goal.returns
 returns g c =

@@ -5,8 +5,8 @@ use Rattle.load.proofs.rows.equation_rows.Goals as goal
 
 pub loop-k-preserved : goal.loop-k-preserved
 loop-k-preserved c = (
-  length-set c.loop-k.rows c.loop-k.k c.node-row.result ∙ c.loop-k.invariant.0,
-  equation-rows-more c.args.equations.now c.args.count c.loop-k.k _ c.loop-k.rows c.node-row.result c.loop-k-test.true (omega (arith, c.loop-k.invariant.0)) c.loop-k.invariant.1 c.node-row.ensures,
+  length-set c.loop-k.rows c.loop-k.k c.node_row.result ∙ c.loop-k.invariant.0,
+  equation-rows-more c.args.equations.now c.args.count c.loop-k.k _ c.loop-k.rows c.node_row.result c.loop-k-test.true (omega (arith, c.loop-k.invariant.0)) c.loop-k.invariant.1 c.node_row.ensures,
 )
 
 pub returns : goal.returns

@@ -7,8 +7,8 @@ use Rattle.turns.proofs.settle.seek.Goals as goal
 pub loop-k-init : goal.loop-k-init
 loop-k-init g c = (λ says H σ fits lt held h. (held, h), λ i past d. refl)
 
-pub seek-row-requires : goal.seek-row-requires
-seek-row-requires g c =
+pub seek_row-requires : goal.seek_row-requires
+seek_row-requires g c =
     let o = c.requires.planned.ordered c.loop-k.k c.loop-k-test.true in
     record { planned = c.requires.planned; room = (let a = c.requires.room in let b = c.loop-k.auto.cells in omega arith); stage = c.requires.stage; row = o.0 }
 
@@ -21,8 +21,8 @@ loop-k-preserved g c =
       λ says H σ fits lt held h.
           let inv = c.loop-k.invariant.0 says H σ fits lt held h in
           sought-one l p c.loop-k.cells c.loop-k.pending c.args.stage k (get_or l.order k 0) o.0 o.1 g.V.Kind.meaning says H σ fits c.args.t lt _ _
-          c.seek-row.ensures.sought inv.0 inv.1,
-      λ i past d. c.seek-row.ensures.beyond i past d ∙ c.loop-k.invariant.1 i past d,
+          c.seek_row.ensures.sought inv.0 inv.1,
+      λ i past d. c.seek_row.ensures.beyond i past d ∙ c.loop-k.invariant.1 i past d,
     )
 
 pub returns : goal.returns

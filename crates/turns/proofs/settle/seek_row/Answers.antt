@@ -10,8 +10,8 @@ use Rattle.turns.proofs.Settling.{both-sides}
 use Rattle.turns.proofs.Searching.{its-asa, sides-at, sought-on, sought-found, sought-stays, windows-stay, untouched-still}
 use Rattle.turns.proofs.settle.seek_row.Goals as goal
 
-pub end-at-requires : goal.end-at-requires
-end-at-requires g c =
+pub end_at-requires : goal.end_at-requires
+end_at-requires g c =
     let l = seen c.args.view.now in
     let sides = both-sides l c.requires.planned c.args.r c.in-Asa.x c.in-Asa.y c.requires.row c.in-Asa.is in
     record { planned = c.requires.planned; room = c.requires.room; left = sides.0.row; right = sides.1.row }
@@ -23,8 +23,8 @@ store-requires g c =
     let a = c.requires.room in
     omega arith
 
-pub returns-in-default-end-at : goal.returns-in-default-end-at
-returns-in-default-end-at g c =
+pub returns-in_default-end_at : goal.returns-in_default-end_at
+returns-in_default-end_at g c =
     let l = seen c.args.view.now in
     let p = c.requires.planned in
     let k = g.V.Kind.meaning in
@@ -39,7 +39,7 @@ returns-in-default-end-at g c =
       sought = λ says H σ fits lt held.
           let sides = sides-at l p cells σ c.args.stage r x y t c.requires.row s c.in-Asa.is held in (
             held,
-            λ z h. sought-on l p k σ cells pending r t x y c.in-Asa.is c.if-not-pending-r.false (c.in-default-end-at.ensures σ sides.0 sides.1) h,
+            λ z h. sought-on l p k σ cells pending r t x y c.in-Asa.is c.if-not-pending-r.false (c.in_default-end_at.ensures σ sides.0 sides.1) h,
             λ q n iq ne sq h. h,
           );
       beyond = λ i past d. refl;

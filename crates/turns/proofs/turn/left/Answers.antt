@@ -3,7 +3,7 @@ use Rattle.std.proofs.lemmas.List.{get_or_default}
 use Rattle.table.specs.Views.{seen}
 use Rattle.table.specs.Layout.{place_at, is_asa}
 use Rattle.turns.proofs.turn.left.Goals as goal
-use Rattle.turns.proofs.turn.left.Goals.{in-Same, in-Same·2, in-Same·3, in-Same·4, in-Same·5, in-Same·6, in-First-2, in-First-2·2, in-Compute, in-Compute·2}
+use Rattle.turns.proofs.turn.left.Goals.{in-Same, in-Same-2, in-Same-3, in-Same-4, in-Same-5, in-Same-6, in-First-2, in-First-2-2, in-Compute, in-Compute-2}
 
 pub returns-in-Asa : goal.returns-in-Asa
 returns-in-Asa g c =
@@ -14,18 +14,18 @@ returns-in-Asa g c =
     rw e (λ d. get_or_default _ _ d _ room ∙ sym c.index-cells-view.is)
 
 pub returns-in-Compute : goal.returns-in-Compute
-returns-in-Compute g c = elim c.in-Compute·.branch [ in-Compute w ↦ search rules | in-Compute·2 w ↦ search rules ]
+returns-in-Compute g c = elim c.in-Compute-1.branch [ in-Compute w ↦ search rules | in-Compute-2 w ↦ search rules ]
 
 pub returns-in-Same : goal.returns-in-Same
 returns-in-Same g c =
-    elim c.in-Same·.branch [
+    elim c.in-Same-1.branch [
       | in-Same w ↦ search rules
-      | in-Same·2 w ↦ search rules
-      | in-Same·3 w ↦ search rules
-      | in-Same·4 w ↦ search rules
-      | in-Same·5 w ↦ search rules
-      | in-Same·6 w ↦ search rules
+      | in-Same-2 w ↦ search rules
+      | in-Same-3 w ↦ search rules
+      | in-Same-4 w ↦ search rules
+      | in-Same-5 w ↦ search rules
+      | in-Same-6 w ↦ search rules
     ]
 
 pub returns-in-First-2 : goal.returns-in-First-2
-returns-in-First-2 g c = elim c.in-First-2·.branch [ in-First-2 w ↦ search rules | in-First-2·2 w ↦ search rules ]
+returns-in-First-2 g c = elim c.in-First-2-1.branch [ in-First-2 w ↦ search rules | in-First-2-2 w ↦ search rules ]

@@ -23,16 +23,16 @@ bounds-view-row g c =
     let b = c.if-row-view.false in
     omega arith
 
-pub overflow-add-turns : goal.overflow-add-turns
-overflow-add-turns g c =
+pub overflow_add-turns : goal.overflow_add-turns
+overflow_add-turns g c =
     let view = c.view-view.result in
     let a = (opened (seen view) view.planned).short in
     let b = c.args.self.now.progress.within in
     let d = c.args.self.now.progress.low in
     search rules
 
-pub overflow-add-due : goal.overflow-add-due
-overflow-add-due g c =
+pub overflow_add-due : goal.overflow_add-due
+overflow_add-due g c =
     let view = c.view-view.result in
     let p = opened (seen view) view.planned in
     let a = p.short in
@@ -41,8 +41,8 @@ overflow-add-due g c =
     let d = c.if-tick-horizon.false in
     search rules
 
-pub overflow-add-place : goal.overflow-add-place
-overflow-add-place g c =
+pub overflow_add-place : goal.overflow_add-place
+overflow_add-place g c =
     let view = c.view-view.result in
     let p = opened (seen view) view.planned in
     let f = slot-fits (seen view) p c.args.row c.if-row-view.false c.args.tick in

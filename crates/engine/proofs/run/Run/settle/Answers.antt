@@ -18,12 +18,12 @@ returns g c =
     let at = c.in-Some.is in
     let seen_as = c.view-view.ensures in
     let old = run.cells.now in
-    let new = c.settle-stage.new.cells in
+    let new = c.settle_stage.new.cells in
     let s = run.progress.settled in
     let stages : c.view-view.result.stages ≡ l.stages = ap (λ x. x.stages) seen_as in
     let more : s < l.stages = let a = c.if-settled-stages.false in omega arith in
-    let settles : Settles l k says old new (s + 1) H = subst (λ x. Settles x k says old new (s + 1) H) seen_as c.if-not-settle-stage.ensures in
-    let kept = c.settle-stage.auto.cells in
+    let settles : Settles l k says old new (s + 1) H = subst (λ x. Settles x k says old new (s + 1) H) seen_as c.if-not-settle_stage.ensures in
+    let kept = c.settle_stage.auto.cells in
     record {
       stays = record { table = refl; room = kept; beyond = settles.beyond };
       refused = never;

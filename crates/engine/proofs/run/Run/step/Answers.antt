@@ -19,13 +19,13 @@ returns g c =
     let at = c.in-Some.is in
     let seen_as = c.view-view.ensures in
     let old = run.cells.now in
-    let new = c.make-tick.new.cells in
+    let new = c.make_tick.new.cells in
     let t = run.progress.made in
     let s = run.progress.settled in
-    let v = c.in-Some-make-tick.reading in
-    let made : Ticked l k says old new t v = subst (λ x. Ticked x k says old new t v) seen_as c.in-Some-make-tick.ensures in
+    let v = c.in-Some-make_tick.reading in
+    let made : Ticked l k says old new t v = subst (λ x. Ticked x k says old new t v) seen_as c.in-Some-make_tick.ensures in
     let done : l.stages ≤ s = subst (λ n. n ≤ s) (ap (λ x. x.stages) seen_as) c.if-settled-view.false in
-    let kept = c.make-tick.auto.cells in
+    let kept = c.make_tick.auto.cells in
     record {
       stays = record { table = refl; room = kept; beyond = beyond-windows l p old new made.beyond };
       refused = never;

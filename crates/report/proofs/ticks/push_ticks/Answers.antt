@@ -7,11 +7,11 @@ use Rattle.report.proofs.Lines.{lines_more}
 use Rattle.text.proofs.Chain.{pushed-is}
 use Rattle.report.proofs.ticks.push_ticks.Goals as goal
 
-pub returns-in-err-tick : goal.returns-in-err-tick
-returns-in-err-tick g c = λ σ fits going.
+pub returns-in_err-tick : goal.returns-in_err-tick
+returns-in_err-tick g c = λ σ fits going.
     let inv = c.loop.invariant in
     let below : c.loop.counter < c.args.horizon = omega arith in
-    absurd (never-over _ _ c.args.run.now c.loop.run c.step.new.self inv.0 c.step.ensures.stays _ c.step.ensures.law _ _ σ fits below (inv.1 σ fits going).0 _ c.in-err-tick.was)
+    absurd (never-over _ _ c.args.run.now c.loop.run c.step.new.self inv.0 c.step.ensures.stays _ c.step.ensures.law _ _ σ fits below (inv.1 σ fits going).0 _ c.in_err-tick.was)
 
 pub loop-preserved : goal.loop-preserved
 loop-preserved g c =
@@ -21,9 +21,9 @@ loop-preserved g c =
       stays-more _ _ _ inv.0 call.stays,
       λ σ fits going.
           let so = inv.1 σ fits going in
-          let is = made-is _ _ c.args.run.now c.loop.run c.step.new.self inv.0 call.stays _ call.law _ _ σ fits below so.0 _ c.in-ok-tick.was in (
+          let is = made-is _ _ c.args.run.now c.loop.run c.step.new.self inv.0 call.stays _ call.law _ _ σ fits below so.0 _ c.in_ok-tick.was in (
             going_on _ _ c.args.run.now c.loop.run c.step.new.self inv.0 call.stays _ call.law _ _ σ fits below so.0,
-            lines_more _ _ _ _ _ _ _ _ is.0 is.1 so.1 c.push-to.ensures,
+            lines_more _ _ _ _ _ _ _ _ is.0 is.1 so.1 c.push_to.ensures,
           ),
     )
 

@@ -1,5 +1,5 @@
 -- The cells of `asa` rows.
-use Rattle.std.proofs.Common.{◌≡◌, ℕ, ◌-◌, ◌<◌, ◌≤◌, Bool, true, false, cond, ◌&&◌, ltb, ◌⊎◌, length, Some, None, sym, refl, ap, ◌∙◌, subst, inl, inr, arith}
+use Rattle.std.proofs.Common.{◌≡◌, ℕ, ◌<◌, Bool, true, false, cond, ◌&&◌, ltb, length, Some, None, refl, ◌∙◌, inl, inr, arith}
 use Rattle.std.proofs.lemmas.Bool.{cases_eq, and_parts, ltb-true}
 use Rattle.kind.specs.Kinds.{Meaning}
 use Rattle.theory.specs.Says.{Says}
@@ -8,7 +8,7 @@ use Rattle.table.specs.Layout.{Layout, Planned, place_at, is_asa}
 use Rattle.turns.proofs.Searching.{cells-differ}
 use Rattle.engine.specs.declared.run.Run.{Run}
 use Rattle.engine.specs.Cells.{cell_of, Own, Keeps}
-use Rattle.engine.specs.Law.{Past, settles_of}
+use Rattle.engine.specs.Law.{Past}
 use Rattle.engine.specs.Tells.{laid, Tells}
 
 module _ (l : Layout) (p : Planned l) where

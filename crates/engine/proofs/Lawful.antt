@@ -1,5 +1,5 @@
 -- The answers of accepted calls are right.
-use Rattle.std.proofs.Common.{◌≡◌, ℕ, ◌+◌, ◌-◌, ◌<◌, ◌≤◌, true, false, List, ◌∷◌, length, Some, None, Option, sym, refl, ap, ◌∙◌, subst, arith}
+use Rattle.std.proofs.Common.{◌≡◌, ℕ, ◌+◌, ◌-◌, ◌<◌, ◌≤◌, List, ◌∷◌, length, Some, None, Option, sym, refl, ap, ◌∙◌, subst, arith}
 use Rattle.reading.specs.declared.faults.Reading.{Reading}
 use Rattle.kind.specs.Kinds.{Meaning}
 use Rattle.theory.specs.Says.{Says}
@@ -11,7 +11,7 @@ use Rattle.engine.specs.declared.run.Run.{Run}
 use Rattle.table.specs.Layout.{Layout, Planned, place_at}
 use Rattle.turns.specs.Holds.{Settled}
 use Rattle.turns.proofs.Settling.{asa-form, both-sides}
-use Rattle.engine.specs.Law.{Past, Right, Under, WindowHas, horizon_of, settles_of, steps_of, left_of, lead}
+use Rattle.engine.specs.Law.{Past, Right, Under, WindowHas, horizon_of, steps_of, left_of}
 use Rattle.engine.specs.Tells.{laid, Tells}
 
 not_none : {A : Type 0} (o : Option A) (x : A) → o ≡ Some x → o ≡ None → ⊥

@@ -1,5 +1,5 @@
 -- Records of calls that grow.
-use Rattle.std.proofs.Common.{◌≡◌, ℕ, zero, suc, ◌+◌, ◌-◌, ◌<◌, ◌≤◌, true, false, ◌≢◌, ◌⊎◌, List, [], ◌∷◌, ◌++◌, length, get_or, sym, refl, ap, ◌∙◌, subst, inl, inr, add-one, arith}
+use Rattle.std.proofs.Common.{◌≡◌, ℕ, zero, suc, ◌+◌, ◌≤◌, true, false, List, [], ◌∷◌, ◌++◌, length, get_or, sym, refl, ap, ◌∙◌, subst, inl, inr, add-one, arith}
 use Rattle.std.proofs.lemmas.List.{get_or_append_left, get_or_at}
 use Rattle.std.proofs.lemmas.Bool.{cases_eq, true≢false}
 use Rattle.kind.specs.Kinds.{Meaning}
@@ -8,12 +8,11 @@ use Rattle.engine.specs.declared.calls.Call.{Call}
 use Rattle.engine.specs.declared.calls.Call.TheVariants.{Open}
 use Rattle.engine.specs.declared.calls.Answer.{Answer}
 use Rattle.engine.specs.declared.calls.Answer.TheVariants.{Absent}
-use Rattle.engine.specs.declared.calls.Entry.{Entry}
 use Rattle.engine.specs.declared.run.Run.{Run}
 use Rattle.table.specs.Layout.{Layout, Planned}
 use Rattle.turns.specs.Holds.{Kept}
 use Rattle.turns.specs.Ticks.{Untouched}
-use Rattle.engine.specs.Law.{Past, Right, record_of, AllRight}
+use Rattle.engine.specs.Law.{Right, record_of, AllRight}
 use Rattle.table.specs.Tables.{layout}
 use Rattle.engine.specs.Tells.{laid, Tells, Lawful, Stays}
 

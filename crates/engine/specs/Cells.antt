@@ -1,5 +1,5 @@
 -- The cells in which `asa` rows keep their readings.
-use Rattle.std.specs.Prelude.{◌≡◌, ℕ, ◌<◌, ◌≤◌, Bool, true, cond, ◌&&◌, List, length, Some, None, Option, nat_lt}
+use Rattle.std.specs.Prelude.{◌≡◌, ℕ, ◌<◌, ◌≤◌, cond, ◌&&◌, List, length, Some, None, Option, nat_lt}
 use Rattle.reading.specs.declared.faults.Reading.{Reading}
 use Rattle.kind.specs.Kinds.{Meaning}
 use Rattle.theory.specs.Says.{Says}

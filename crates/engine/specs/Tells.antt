@@ -1,11 +1,11 @@
 -- What a run's fields and cells hold after the calls of a record.
-use Rattle.std.specs.Prelude.{◌≡◌, ℕ, ◌+◌, ◌-◌, ◌<◌, ◌≤◌, true, ◌∷◌, length, get_or, Some}
+use Rattle.std.specs.Prelude.{◌≡◌, ℕ, ◌+◌, ◌-◌, ◌<◌, ◌≤◌, ◌∷◌, length, Some}
 use Rattle.kind.specs.Kinds.{Meaning}
 use Rattle.theory.specs.Says.{Says}
-use Rattle.theory.specs.Rule.{Sheet, Fits, row_at}
-use Rattle.table.specs.Layout.{Layout, place_at, is_asa}
+use Rattle.theory.specs.Rule.{Sheet, Fits}
+use Rattle.table.specs.Layout.{Layout}
 use Rattle.table.specs.Tables.{layout}
-use Rattle.turns.specs.Holds.{At, Holds, Settled}
+use Rattle.turns.specs.Holds.{Holds, Settled}
 use Rattle.turns.specs.Ticks.{Untouched}
 use Rattle.engine.specs.declared.run.Run.{Run}
 use Rattle.engine.specs.declared.calls.Call.{Call}

@@ -1,6 +1,6 @@
 -- The machine reads every text of the grammar to its end, and makes its trees. Assumes nothing.
-use Rattle.std.proofs.Common.{◌≡◌, ℕ, ◌+◌, ◌<◌, ◌≤◌, Bool, true, false, cond, ◌&&◌, eqb, leb, ◌⊎◌, List, [], ◌∷◌, ◌++◌, map, get_or, Some, None, Option, sym, refl, ap, ◌∙◌, subst, inl, inr, append_assoc, append-nil, le_trans, arith}
-use Rattle.std.proofs.lemmas.Bool.{leb-true, and_parts, eqb-true, le-leb, lt-leb, and_from, and_left, cond-true, cond-false}
+use Rattle.std.proofs.Common.{◌≡◌, ℕ, ◌+◌, ◌<◌, ◌≤◌, ◌⊎◌, List, [], ◌∷◌, ◌++◌, Some, None, Option, sym, refl, ap, ◌∙◌, inl, inr, append_assoc, le_trans, arith}
+use Rattle.std.proofs.lemmas.Bool.{le-leb, lt-leb, and_from, and_left, cond-true, cond-false}
 use Rattle.lexer.specs.declared.token.Atom.{Atom}
 use Rattle.lexer.specs.declared.token.Atom.TheVariants as atom
 use Rattle.lexer.specs.declared.token.Infix.{Infix}
@@ -8,12 +8,12 @@ use Rattle.lexer.specs.declared.token.Infix.TheVariants.{Fby, Asa, Or, And, Eq, 
 use Rattle.lexer.specs.declared.token.Prefix.{Prefix}
 use Rattle.lexer.specs.declared.token.Prefix.TheVariants.{Negate, First, Next, Not}
 use Rattle.lexer.specs.declared.token.Mark.{Mark}
-use Rattle.lexer.specs.declared.token.Mark.TheVariants.{Compute, Output, Where, End, If, Then, Else, Open, Close, Equals, Semicolon}
+use Rattle.lexer.specs.declared.token.Mark.TheVariants.{End, If, Then, Else, Close, Equals, Semicolon}
 use Rattle.lexer.specs.declared.token.Token.{Token}
 use Rattle.lexer.specs.declared.token.Token.TheVariants as word
-use Rattle.grammar.specs.Grammar.{levels, prefix_level, choice_level, Tree, leaf, bracket, prefix, infix', choice, level_of, Fits, symbol, words, Equation, equation_words, body_words, text_words, Nameable, Formed, AllFormed, Text, Viable}
-use Rattle.grammar.specs.Machine.{Frame, group, operand, right, test, branch, other, Spot, due, read, as_infix, fitting, and_then, takes, go_on, code, is, only, close, minus, begin_prefix, begin_mark, begin, advance, State, header, name, equals, inside, ended, nameable, begin_equation, whole, whole_at, end_equation, enter, after_header, step, run, start, Stops}
-use Rattle.grammar.proofs.Parts.{some_is, none-some, refit}
+use Rattle.grammar.specs.Grammar.{levels, prefix_level, choice_level, Tree, leaf, bracket, prefix, infix', choice, level_of, Fits, symbol, words, Equation, body_words, text_words, Nameable, Formed, AllFormed, Viable}
+use Rattle.grammar.specs.Machine.{Frame, group, operand, right, test, branch, other, Spot, due, read, and_then, takes, go_on, close, begin, advance, State, name, equals, inside, ended, whole, whole_at, end_equation, enter, step, run, start, Stops}
+use Rattle.grammar.proofs.Parts.{none-some, refit}
 
 two-levels : (u : Prefix) → (prefix_level u ≡ 10) ⊎ (prefix_level u ≡ 6)
 two-levels Negate = inl refl

@@ -1,20 +1,9 @@
 -- The machine decides the grammar. Assumes nothing.
-use Rattle.std.proofs.Common.{◌≡◌, ℕ, ◌+◌, ◌<◌, ◌≤◌, Bool, true, false, cond, ◌&&◌, eqb, leb, ◌⊎◌, List, [], ◌∷◌, ◌++◌, map, get_or, Some, None, Option, sym, refl, ap, ◌∙◌, subst, inl, inr, append_assoc, append-nil, arith}
-use Rattle.std.proofs.lemmas.Bool.{leb-true, and_parts, eqb-true}
-use Rattle.lexer.specs.declared.token.Atom.{Atom}
-use Rattle.lexer.specs.declared.token.Atom.TheVariants as atom
-use Rattle.lexer.specs.declared.token.Infix.{Infix}
-use Rattle.lexer.specs.declared.token.Infix.TheVariants.{Fby, Asa, Or, And, Eq, Ne, Lt, Le, Gt, Ge, Add, Sub, Mul, Div}
-use Rattle.lexer.specs.declared.token.Prefix.{Prefix}
-use Rattle.lexer.specs.declared.token.Prefix.TheVariants.{Negate, First, Next, Not}
-use Rattle.lexer.specs.declared.token.Mark.{Mark}
-use Rattle.lexer.specs.declared.token.Mark.TheVariants.{Compute, Output, Where, End, If, Then, Else, Open, Close, Equals, Semicolon}
+use Rattle.std.proofs.Common.{◌≡◌, List, [], ◌∷◌, Some, None, Option, refl, ap, ◌∙◌}
 use Rattle.lexer.specs.declared.token.Token.{Token}
-use Rattle.lexer.specs.declared.token.Token.TheVariants as word
-use Rattle.grammar.specs.Grammar.{levels, prefix_level, choice_level, Tree, leaf, bracket, prefix, infix', choice, level_of, Fits, symbol, words, Equation, equation_words, body_words, text_words, Nameable, Formed, AllFormed, Text, Viable}
-use Rattle.grammar.specs.Machine.{Frame, group, operand, right, test, branch, other, Spot, due, read, as_infix, fitting, and_then, takes, go_on, code, is, only, close, minus, begin_prefix, begin_mark, begin, advance, State, header, name, equals, inside, ended, nameable, begin_equation, whole, whole_at, end_equation, enter, after_header, step, run, start}
+use Rattle.grammar.specs.Grammar.{Equation, Text, Viable}
+use Rattle.grammar.specs.Machine.{State, ended, run, start}
 use Rattle.grammar.specs.Decision.{Decides}
-use Rattle.grammar.proofs.Parts.{some_is, none-some}
 use Rattle.grammar.proofs.Texts.{Ended, Reached, ran, viable}
 use Rattle.grammar.proofs.Complete.{accepts, not-viable}
 

@@ -1,7 +1,6 @@
 -- What the machine has read so far begins a text of the grammar. Assumes nothing.
-use Rattle.std.proofs.Common.{◌≡◌, ℕ, ◌+◌, ◌<◌, ◌≤◌, Bool, true, false, cond, ◌&&◌, eqb, leb, ◌⊎◌, List, [], ◌∷◌, ◌++◌, map, get_or, Some, None, Option, sym, refl, ap, ◌∙◌, subst, inl, inr, append_assoc, append-nil, arith}
-use Rattle.std.proofs.lemmas.Bool.{leb-true, and_parts, eqb-true}
-use Rattle.lexer.specs.declared.token.Atom.{Atom}
+use Rattle.std.proofs.Common.{◌≡◌, ℕ, ◌≤◌, true, leb, List, [], ◌∷◌, ◌++◌, Some, None, Option, sym, refl, ap, ◌∙◌, subst, append_assoc, append-nil, arith}
+use Rattle.std.proofs.lemmas.Bool.{leb-true}
 use Rattle.lexer.specs.declared.token.Atom.TheVariants as atom
 use Rattle.lexer.specs.declared.token.Infix.{Infix}
 use Rattle.lexer.specs.declared.token.Infix.TheVariants.{Fby, Asa, Or, And, Eq, Ne, Lt, Le, Gt, Ge, Add, Sub, Mul, Div}
@@ -11,9 +10,9 @@ use Rattle.lexer.specs.declared.token.Mark.{Mark}
 use Rattle.lexer.specs.declared.token.Mark.TheVariants.{Compute, Output, Where, End, If, Then, Else, Open, Close, Equals, Semicolon}
 use Rattle.lexer.specs.declared.token.Token.{Token}
 use Rattle.lexer.specs.declared.token.Token.TheVariants as word
-use Rattle.grammar.specs.Grammar.{levels, prefix_level, choice_level, Tree, leaf, bracket, prefix, infix', choice, level_of, Fits, symbol, words, Equation, equation_words, body_words, text_words, Nameable, Formed, AllFormed, Text, Viable}
-use Rattle.grammar.specs.Machine.{Frame, group, operand, right, test, branch, other, Spot, due, read, as_infix, fitting, and_then, takes, go_on, code, is, only, close, minus, begin_prefix, begin_mark, begin, advance, State, header, name, equals, inside, ended, nameable, begin_equation, whole, whole_at, end_equation, enter, after_header, step, run, start}
-use Rattle.grammar.proofs.Parts.{some_is, none-some, picked, is_true, only-some, Taken, taken, refit}
+use Rattle.grammar.specs.Grammar.{levels, prefix_level, choice_level, Tree, leaf, bracket, prefix, infix', choice, level_of, Fits, symbol, words}
+use Rattle.grammar.specs.Machine.{Frame, group, operand, right, test, branch, other, Spot, due, read, takes, go_on, is, close, minus, begin_prefix, begin_mark, begin, advance}
+use Rattle.grammar.proofs.Parts.{some_is, none-some, picked, only-some, taken, refit}
 
 -- An expression of level n in the frames makes a whole expression of level 1.
 abbrev pub Placed : List Frame → ℕ → Type 0

@@ -1,20 +1,15 @@
 -- Whatever words the machine has read begin a text of the grammar. Assumes nothing.
-use Rattle.std.proofs.Common.{◌≡◌, ℕ, ◌+◌, ◌<◌, ◌≤◌, Bool, true, false, cond, ◌&&◌, eqb, leb, ◌⊎◌, List, [], ◌∷◌, ◌++◌, map, get_or, Some, None, Option, sym, refl, ap, ◌∙◌, subst, inl, inr, append_assoc, append-nil, arith}
-use Rattle.std.proofs.lemmas.Bool.{leb-true, and_parts, eqb-true}
+use Rattle.std.proofs.Common.{◌≡◌, ℕ, Bool, true, false, cond, List, [], ◌∷◌, ◌++◌, map, Some, None, Option, sym, refl, ap, ◌∙◌, subst, append_assoc, append-nil, arith}
 use Rattle.lexer.specs.declared.token.Atom.{Atom}
 use Rattle.lexer.specs.declared.token.Atom.TheVariants as atom
-use Rattle.lexer.specs.declared.token.Infix.{Infix}
-use Rattle.lexer.specs.declared.token.Infix.TheVariants.{Fby, Asa, Or, And, Eq, Ne, Lt, Le, Gt, Ge, Add, Sub, Mul, Div}
-use Rattle.lexer.specs.declared.token.Prefix.{Prefix}
-use Rattle.lexer.specs.declared.token.Prefix.TheVariants.{Negate, First, Next, Not}
 use Rattle.lexer.specs.declared.token.Mark.{Mark}
-use Rattle.lexer.specs.declared.token.Mark.TheVariants.{Compute, Output, Where, End, If, Then, Else, Open, Close, Equals, Semicolon}
+use Rattle.lexer.specs.declared.token.Mark.TheVariants.{Compute, Output, Where, End, Equals, Semicolon}
 use Rattle.lexer.specs.declared.token.Token.{Token}
 use Rattle.lexer.specs.declared.token.Token.TheVariants as word
-use Rattle.grammar.specs.Grammar.{levels, prefix_level, choice_level, Tree, leaf, bracket, prefix, infix', choice, level_of, Fits, symbol, words, Equation, equation_words, body_words, text_words, Nameable, Formed, AllFormed, Text, Viable}
-use Rattle.grammar.specs.Machine.{Frame, group, operand, right, test, branch, other, Spot, due, read, as_infix, fitting, and_then, takes, go_on, code, is, only, close, minus, begin_prefix, begin_mark, begin, advance, State, header, name, equals, inside, ended, nameable, begin_equation, whole, whole_at, end_equation, enter, after_header, step, run, start}
+use Rattle.grammar.specs.Grammar.{Tree, leaf, prefix, infix', choice, Fits, words, Equation, equation_words, body_words, text_words, Nameable, Formed, AllFormed, Viable}
+use Rattle.grammar.specs.Machine.{Frame, group, operand, right, test, branch, other, Spot, due, read, and_then, is, advance, State, header, name, equals, inside, ended, nameable, begin_equation, whole, whole_at, end_equation, enter, after_header, step, run}
 use Rattle.grammar.proofs.Parts.{some_is, none-some, picked, is_true, only-some}
-use Rattle.grammar.proofs.Sound.{Placed, so_far, spot-words, Good, Stepped, advanced, Inside, completed}
+use Rattle.grammar.proofs.Sound.{Placed, so_far, spot-words, Good, advanced, completed}
 
 abbrev head-words : List Token
 head-words = word.Mark Compute ∷ word.Mark Output ∷ word.Mark Where ∷ []

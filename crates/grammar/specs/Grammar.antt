@@ -6,7 +6,6 @@ use Rattle.lexer.specs.declared.token.Infix.{Infix}
 use Rattle.lexer.specs.declared.token.Infix.TheVariants.{Fby, Asa, Or, And, Eq, Ne, Lt, Le, Gt, Ge, Add, Sub, Mul, Div}
 use Rattle.lexer.specs.declared.token.Prefix.{Prefix}
 use Rattle.lexer.specs.declared.token.Prefix.TheVariants.{Negate, First, Next, Not}
-use Rattle.lexer.specs.declared.token.Mark.{Mark}
 use Rattle.lexer.specs.declared.token.Mark.TheVariants.{Compute, Output, Where, End, If, Then, Else, Open, Close, Equals, Semicolon}
 use Rattle.lexer.specs.declared.token.Token.{Token}
 use Rattle.lexer.specs.declared.token.Token.TheVariants as word

@@ -1,14 +1,12 @@
 -- Between a binary64 number and its bits, and what `calculated` answers for a quotient.
-use Rattle.std.proofs.Common.{◌≡◌, ℕ, Bool, true, false, cond, not, T, List, pos, Some, None, Ok, Err, Result, sym, refl, ap, ◌∙◌, subst}
+use Rattle.std.proofs.Common.{◌≡◌, ℕ, Bool, true, false, cond, not, T, List, pos, Some, None, Ok, Err, sym, refl, ap, ◌∙◌, subst}
 use lib.Dec.{T_prop}
 use lib.Ieee.{Float, nan, inf, fin, binary64, of_bits, to_bits, of_fields, odd, fits, is_nan, eq, div}
 use lib.Ieee.Bits.{of_bits-to_bits}
 use Rattle.std.specs.Float.{float_is_finite}
-use Rattle.reading.specs.declared.faults.KindFault.{KindFault}
 use Rattle.reading.specs.declared.faults.KindFault.TheVariants.{ZeroDivisor, OutOfRange}
 use Rattle.reading.specs.declared.rows.Arithmetic.{Arithmetic}
 use Rattle.reading.specs.declared.rows.Arithmetic.TheVariants.{Divide}
-use Rattle.kind.specs.declared.rate.Rate.{Rate}
 use Rattle.std.specs.Int.Digits.{number_from_digits}
 use Rattle.kind.specs.Rates.{stored, packed, calculated, word}
 use Rattle.kind.proofs.Provided.{provided-yes, provided-no}

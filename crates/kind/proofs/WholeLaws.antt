@@ -1,11 +1,10 @@
 -- A bounded integer is fixed by its value, and so is what `fitted` and `word` make of an integer.
-use Rattle.std.proofs.Common.{◌≡◌, ℕ, ◌≤◌, T, leb, List, ℤ, nat_abs, Some, None, Ok, Err, sym, refl, ap, ◌∙◌, subst, le→leb, leb→le, w64, to_z}
+use Rattle.std.proofs.Common.{◌≡◌, ℕ, ◌≤◌, T, List, ℤ, nat_abs, Some, None, Ok, Err, sym, ap, ◌∙◌, subst, le→leb, leb→le, w64, to_z}
 use native.Mathlib.Bridge.{le_prop}
 use Rattle.std.specs.Int.Digits.{number_from_digits}
 use Rattle.reading.specs.declared.faults.KindFault.TheVariants.{OutOfRange}
 use Rattle.kind.specs.declared.bounded.Integer.{Integer}
-use Rattle.kind.specs.declared.whole.Whole.{Whole}
-use Rattle.kind.specs.declared.whole.Whole.TheVariants.{Number, Truth}
+use Rattle.kind.specs.declared.whole.Whole.TheVariants.{Number}
 use Rattle.kind.specs.Wholes.{within, bounded, fitted, word}
 use Rattle.kind.proofs.Provided.{provided-yes, provided-no}
 

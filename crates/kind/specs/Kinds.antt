@@ -1,5 +1,5 @@
 -- What a value kind means.
-use Rattle.std.specs.Prelude.{◌≡◌, ℕ, Bool, true, false, T, List, Some, None, Option, Result}
+use Rattle.std.specs.Prelude.{◌≡◌, ℕ, Bool, true, false, T, List, Some, Option, Result}
 use Rattle.reading.specs.declared.faults.KindFault.{KindFault}
 use Rattle.reading.specs.declared.rows.Arithmetic.{Arithmetic}
 use Rattle.reading.specs.declared.rows.Relation.{Relation}

@@ -1,5 +1,5 @@
 -- The kind of rates: the finite IEEE 754 binary64 numbers, and the truth values.
-use Rattle.std.specs.Prelude.{◌≡◌, ℕ, ◌^◌, ◌≤◌, min, Bool, true, false, cond, not, T, List, pos, Some, None, Ok, Err, Option, Result, from_bits, to_bits, refl, Float}
+use Rattle.std.specs.Prelude.{◌≡◌, ℕ, ◌^◌, ◌≤◌, min, Bool, false, cond, not, T, List, pos, Some, None, Ok, Err, Option, Result, from_bits, to_bits, refl, Float}
 use Rattle.std.proofs.Common.{sym, subst, arith}
 use Rattle.std.specs.Bool.{beq}
 use Rattle.std.specs.Float.Ieee.{neg, add, sub, mul, div, eq, ne, lt, le, of_int}
@@ -15,11 +15,8 @@ use Rattle.reading.specs.declared.rows.Arithmetic.{Arithmetic}
 use Rattle.reading.specs.declared.rows.Arithmetic.TheVariants.{Add, Subtract, Multiply, Divide}
 use Rattle.reading.specs.declared.rows.Relation.{Relation}
 use Rattle.reading.specs.declared.rows.Relation.TheVariants.{Equal, Unequal, Less, AtMost, Greater, AtLeast}
-use Rattle.kind.specs.declared.finite.Finite.{Finite}
 use Rattle.kind.specs.declared.rate.Rate.{Rate}
-use Rattle.kind.specs.declared.rate.Rate.TheVariants as Rate
 use Rattle.kind.specs.declared.rate.Operand.{Operand}
-use Rattle.kind.specs.declared.rate.Operand.TheVariants as Operand
 use Rattle.kind.specs.Kinds.{Meaning, provided}
 
 -- The bits as a value, if they are those of a finite number.

@@ -1,5 +1,5 @@
 -- The kind of whole numbers: the integers within 2147483647 of 0, and the truth values.
-use Rattle.std.specs.Prelude.{◌≡◌, ℕ, ◌≤◌, min, Bool, true, false, cond, not, T, List, ℤ, pos, negsuc, ◌+ℤ◌, ◌-ℤ◌, ◌*ℤ◌, neg_ℤ, Some, None, Ok, Err, Option, Result, ◌==◌, int_div, int_le, int_lt, nat_le, unsigned_abs, refl}
+use Rattle.std.specs.Prelude.{◌≡◌, ℕ, min, Bool, false, cond, not, T, List, ℤ, pos, negsuc, ◌+ℤ◌, ◌-ℤ◌, ◌*ℤ◌, neg_ℤ, Some, None, Ok, Err, Option, Result, ◌==◌, int_div, int_le, int_lt, nat_le, unsigned_abs, refl}
 use Rattle.std.specs.Bool.{beq}
 use Rattle.std.proofs.Common.{arith, leb→le, to_z}
 use Rattle.std.specs.Int.{w64}

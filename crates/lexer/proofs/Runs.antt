@@ -1,5 +1,5 @@
 -- The steps of the loops over a run, a name and a literal. Assumes nothing.
-use Rattle.std.proofs.Common.{◌≡◌, ℕ, zero, suc, ◌+◌, ◌-◌, ◌*◌, ◌<◌, ◌≤◌, Bool, true, false, cond, List, [], ◌∷◌, ◌++◌, map, length, get_or, take, drop, set, replicate, Some, None, fold, Option, sym, refl, ap, ◌∙◌, subst, append_assoc, add-zero, arith}
+use Rattle.std.proofs.Common.{◌≡◌, ℕ, zero, suc, ◌+◌, ◌-◌, ◌*◌, ◌<◌, ◌≤◌, Bool, true, false, cond, List, [], ◌∷◌, ◌++◌, map, length, get_or, take, drop, set, replicate, Some, None, fold, Option, sym, refl, ap, ◌∙◌, subst, append_assoc, arith}
 use Rattle.std.proofs.lemmas.List.{length-take, length-drop, length-map, length-take-le, length_push, get_or-take, take_at, take_all, set_at, map_more}
 use Rattle.lexer.specs.declared.token.Token.{Token}
 use Rattle.std.specs.List.{prefix_len}
@@ -8,7 +8,7 @@ use Rattle.lexer.specs.declared.lexer.Run.{Run}
 use Rattle.lexer.specs.declared.lexer.Run.TheVariants.{Number, Name}
 use Rattle.lexer.specs.declared.lexer.Class.{Class}
 use Rattle.lexer.specs.declared.lexer.Next.{Next}
-use Rattle.lexer.specs.declared.lexer.Next.TheVariants.{Word, Finish, Bad}
+use Rattle.lexer.specs.declared.lexer.Next.TheVariants.{Word, Finish}
 use Rattle.std.proofs.lemmas.Bool.{le-leb, lt-leb, cond-true, cond-false}
 use Rattle.lexer.specs.Lexer.{class, in_run, run_end, word_of, scan, small, longest, filled, reserved, or_name, part, name_word, Digits, greatest, value, literal, literal_word, number_word}
 

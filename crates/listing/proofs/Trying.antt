@@ -1,5 +1,5 @@
 -- A run over a recording that opened.
-use Rattle.std.proofs.Common.{◌≡◌, ℕ, ◌<◌, ◌≤◌, List, ◌++◌, Ok, Err, Result, refl, subst, arith}
+use Rattle.std.proofs.Common.{◌≡◌, ℕ, ◌≤◌, List, ◌++◌, Ok, Err, Result, refl, subst, arith}
 use native.Mathlib.Decide.{dec_lt}
 use Rattle.kind.specs.Kinds.{Meaning}
 use Rattle.source.specs.declared.format.Counts.{Counts}

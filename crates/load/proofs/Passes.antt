@@ -1,5 +1,5 @@
 -- A text that passes every step before the rings. Assumes nothing.
-use Rattle.std.proofs.Common.{◌≡◌, ℕ, List, [], take, Ok, Err, Result, sym, subst}
+use Rattle.std.proofs.Common.{◌≡◌, ℕ, List, [], take, Ok, Result, subst}
 use Rattle.reading.specs.declared.rows.Row.{Row}
 use Rattle.table.specs.declared.table.Table.{Table}
 use Rattle.syntax.specs.declared.draft.Draft.{Draft}

@@ -1,5 +1,5 @@
 -- The steps of the loops over the equations. Assumes nothing.
-use Rattle.std.proofs.Common.{◌≡◌, ℕ, ◌+◌, ◌<◌, ◌≤◌, Bool, true, false, cond, ltb, List, [], ◌∷◌, ◌++◌, map, length, get_or, take, drop, set, Some, None, Ok, Err, Option, Result, sym, refl, ap, ◌∙◌, append_assoc, append-nil, arith}
+use Rattle.std.proofs.Common.{◌≡◌, ℕ, ◌+◌, ◌<◌, ◌≤◌, true, false, cond, ltb, List, [], ◌∷◌, ◌++◌, map, length, get_or, take, drop, set, Some, None, Ok, Err, Option, sym, ap, ◌∙◌, append_assoc, append-nil, arith}
 use Rattle.std.proofs.lemmas.List.{at_drop_more, at_drop_all, take_more, take_more_set, take_all, map_more}
 use Rattle.std.proofs.lemmas.List.Sums.{fold_more}
 use Rattle.std.proofs.lemmas.Bool.{cond-true, cond-false, lt-ltb, le-ltb}
@@ -7,7 +7,6 @@ use Rattle.lexer.specs.declared.token.Name.{Name}
 use Rattle.reading.specs.declared.rows.Row.{Row}
 use Rattle.syntax.specs.declared.draft.Equation.{Equation}
 use Rattle.syntax.specs.declared.draft.Node.{Node}
-use Rattle.load.specs.declared.refusal.Refusal.{Refusal}
 use Rattle.load.specs.declared.refusal.Refusal.TheVariants.{Taken, TooMany}
 use Rattle.load.specs.Heads.{defines, found_from, clashes, heads_from}
 use Rattle.load.specs.Sizes.{counted}

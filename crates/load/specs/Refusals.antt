@@ -1,5 +1,5 @@
 -- The numbers and places of the refusals of a text.
-use Rattle.std.specs.Prelude.{ℕ, List}
+use Rattle.std.specs.Prelude.{ℕ}
 use Rattle.syntax.specs.declared.refusal.Refusal.{Refusal as ReadingRefusal}
 use Rattle.syntax.specs.declared.refusal.Refusal.TheVariants as reading
 use Rattle.load.specs.declared.refusal.Refusal.{Refusal}

@@ -1,5 +1,5 @@
 -- A run that goes on by one call.
-use Rattle.std.proofs.Common.{◌≡◌, ℕ, suc, ◌+◌, ◌-◌, ◌<◌, [], ◌∷◌, ◌++◌, Some, Ok, Err, Result, sym, refl, ap, ◌∙◌, subst, add-one, arith}
+use Rattle.std.proofs.Common.{◌≡◌, ℕ, ◌+◌, ◌-◌, ◌<◌, ◌∷◌, Ok, Err, Result, sym, ap, ◌∙◌, subst, arith}
 use Rattle.reading.specs.declared.faults.Reading.{Reading}
 use Rattle.kind.specs.Kinds.{Meaning}
 use Rattle.theory.specs.Says.{Says}
@@ -7,11 +7,11 @@ use Rattle.theory.specs.Rule.{Sheet, Fits}
 use Rattle.table.specs.Layout.{Layout}
 use Rattle.table.specs.Tables.{layout}
 use Rattle.engine.specs.declared.run.Run.{Run}
-use Rattle.engine.specs.declared.calls.Call.TheVariants.{Open, Settle, Step}
+use Rattle.engine.specs.declared.calls.Call.TheVariants.{Settle, Step}
 use Rattle.engine.specs.declared.calls.Answer.{Answer}
-use Rattle.engine.specs.declared.calls.Answer.TheVariants.{Stages, Left, Made}
+use Rattle.engine.specs.declared.calls.Answer.TheVariants.{Left, Made}
 use Rattle.engine.specs.declared.calls.Refusal.{Refusal}
-use Rattle.engine.specs.Law.{horizon_of, settles_of, left_of, steps_of, settled_by, stepped}
+use Rattle.engine.specs.Law.{settles_of, steps_of, settled_by, stepped}
 use Rattle.engine.specs.Tells.{laid, Tells, Lawful, Stays}
 use Rattle.report.specs.Runs.{Going}
 

@@ -1,5 +1,5 @@
 -- A run from its open to its last tick.
-use Rattle.std.proofs.Common.{◌≡◌, ℕ, ◌-◌, ◌<◌, ◌≤◌, List, [], ◌∷◌, ◌++◌, length, Ok, Err, Result, sym, refl, ap, ◌∙◌, subst, arith}
+use Rattle.std.proofs.Common.{◌≡◌, ℕ, ◌-◌, ◌≤◌, List, [], ◌∷◌, length, Ok, Err, Result, sym, refl, ap, ◌∙◌, subst, arith}
 use native.Mathlib.Decide.{dec_lt}
 use Rattle.kind.specs.Kinds.{Meaning}
 use Rattle.theory.specs.Says.{Says}
@@ -13,7 +13,6 @@ use Rattle.engine.specs.declared.calls.Call.TheVariants.{Open}
 use Rattle.engine.specs.declared.calls.Answer.{Answer}
 use Rattle.engine.specs.declared.calls.Answer.TheVariants.{Stages}
 use Rattle.engine.specs.declared.calls.Refusal.{Refusal}
-use Rattle.engine.specs.declared.calls.Refusal.TheVariants.{Horizon, Cells}
 use Rattle.engine.specs.Law.{Right, opened}
 use Rattle.engine.specs.Tells.{laid, Tells, Lawful, Stays}
 use Rattle.format.specs.Shown.{heading_text}

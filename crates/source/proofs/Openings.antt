@@ -1,10 +1,9 @@
 -- What `checked` answers is what is to be answered.
-use Rattle.std.proofs.Common.{◌≡◌, ℕ, zero, suc, ◌+◌, ◌<◌, ◌≤◌, Bool, true, false, cond, not, ◌||◌, eqb, ltb, ◌⊎◌, List, length, get_or, Some, Ok, Err, Result, refl, inl, inr, arith}
+use Rattle.std.proofs.Common.{◌≡◌, ℕ, zero, suc, ◌+◌, ◌<◌, ◌≤◌, Bool, true, false, cond, not, ◌||◌, eqb, ltb, List, length, get_or, Some, Ok, Err, refl, inl, inr, arith}
 use Rattle.std.proofs.lemmas.Bool.{ltb-true, ltb-false, eqb-true, eqb-false, not-true, not-false, or_cases, or_parts, cases_eq}
 use Rattle.source.specs.declared.format.Counts.{Counts}
-use Rattle.source.specs.declared.format.RecordingError.{RecordingError}
 use Rattle.source.specs.declared.format.RecordingError.TheVariants.{Header, Length}
-use Rattle.source.specs.Recordings.{start, size_of, ticks_of, first_bad, marked, sized, checked}
+use Rattle.source.specs.Recordings.{size_of, ticks_of, first_bad, marked, sized, checked}
 use Rattle.source.specs.Openings.{Heads, Opens, mark_at, opened, cut_header, other_kind, bad_channels, bad_ticks, bad_length, bad_mark}
 
 module _ (code : ℕ) (bytes : List ℕ) where

@@ -1,6 +1,6 @@
 -- A lawful source stays lawful when its gaps are filled.
 use Rattle.std.specs.Prelude.{◌≡◌, ℕ, zero, suc, ◌+◌, ◌-◌, ◌<◌, ◌≤◌, ◌⊎◌, Ok, Err, Result, ◌≢◌, refl}
-use Rattle.std.proofs.Common.{sym, ap, ◌∙◌, subst, inl, inr, ⊎_elim, arith}
+use Rattle.std.proofs.Common.{ap, ◌∙◌, inl, inr, ⊎_elim, arith}
 use Rattle.reading.specs.declared.faults.SourceFault.{SourceFault}
 use Rattle.reading.specs.declared.faults.SourceFault.TheVariants.{Ended, Gap, OutOfRange}
 use Rattle.source.specs.Sources.{Meaning, Lawful}

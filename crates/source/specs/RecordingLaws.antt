@@ -1,14 +1,13 @@
 -- What a recording means is a lawful source.
-use Rattle.std.specs.Prelude.{◌≡◌, ℕ, ◌+◌, ◌*◌, ◌<◌, ◌≤◌, Bool, true, false, cond, ◌&&◌, ◌⊎◌, List, Some, None, Ok, Err, Option, Result, ◌==◌, ◌≢◌, nat_lt, slice_index, refl}
-use Rattle.std.proofs.Common.{sym, ap, ◌∙◌, subst, inl, inr, arith, lt→ltb}
+use Rattle.std.specs.Prelude.{◌≡◌, ℕ, ◌+◌, ◌*◌, ◌<◌, ◌≤◌, Bool, true, false, cond, ◌&&◌, ◌⊎◌, List, Some, None, Err, Option, ◌==◌, ◌≢◌, nat_lt, slice_index, refl}
+use Rattle.std.proofs.Common.{ap, ◌∙◌, subst, inl, inr, arith, lt→ltb}
 use Rattle.std.proofs.Math.Arith.{le→nltb}
 use Rattle.std.specs.Float.Ieee.Bits.{is_true, is_false}
-use Rattle.reading.specs.declared.faults.SourceFault.{SourceFault}
-use Rattle.reading.specs.declared.faults.SourceFault.TheVariants.{Ended, Gap, OutOfRange}
+use Rattle.reading.specs.declared.faults.SourceFault.TheVariants.{Ended, Gap}
 use Rattle.kind.specs.Kinds as Kinds
 use Rattle.source.specs.declared.format.Counts.{Counts}
 use Rattle.source.specs.Recordings.{recorded, heard, start, word_at}
-use Rattle.source.specs.Sources.{Meaning, Lawful}
+use Rattle.source.specs.Sources.{Lawful}
 
 no-and : (p : Bool) → (p && false) ≡ false
 no-and true = refl

@@ -1,5 +1,5 @@
 -- What a source means.
-use Rattle.std.specs.Prelude.{◌≡◌, ℕ, ◌<◌, ◌≤◌, ◌⊎◌, Ok, Err, Result, ◌≢◌}
+use Rattle.std.specs.Prelude.{◌≡◌, ℕ, ◌<◌, ◌≤◌, ◌⊎◌, Err, Result, ◌≢◌}
 use Rattle.reading.specs.declared.faults.SourceFault.{SourceFault}
 use Rattle.reading.specs.declared.faults.SourceFault.TheVariants.{Ended}
 

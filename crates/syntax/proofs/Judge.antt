@@ -1,25 +1,19 @@
 -- From the machine to the judgement on a text. Assumes nothing.
-use Rattle.std.proofs.Common.{◌≡◌, ℕ, ◌+◌, ◌<◌, ◌≤◌, Bool, true, false, cond, ◌&&◌, eqb, leb, ◌⊎◌, List, [], ◌∷◌, ◌++◌, map, length, get_or, Some, None, Ok, Err, Option, Result, sym, refl, ap, ◌∙◌, subst, inl, inr, append_assoc, append-nil, arith}
-use Rattle.std.proofs.lemmas.Bool.{leb-true, and_parts, eqb-true, ne_eqb}
+use Rattle.std.proofs.Common.{◌≡◌, ℕ, ◌≤◌, Bool, true, false, cond, List, [], ◌∷◌, ◌++◌, Some, None, Ok, Err, Option, Result, sym, refl, ap, ◌∙◌, subst, append_assoc, arith}
 use Rattle.lexer.specs.declared.token.Atom.{Atom}
-use Rattle.lexer.specs.declared.token.Atom.TheVariants as atom
-use Rattle.lexer.specs.declared.token.Infix.{Infix}
-use Rattle.lexer.specs.declared.token.Infix.TheVariants.{Fby, Asa, Or, And, Eq, Ne, Lt, Le, Gt, Ge, Add, Sub, Mul, Div}
-use Rattle.lexer.specs.declared.token.Prefix.{Prefix}
-use Rattle.lexer.specs.declared.token.Prefix.TheVariants.{Negate, First, Next, Not}
 use Rattle.lexer.specs.declared.token.Mark.{Mark}
-use Rattle.lexer.specs.declared.token.Mark.TheVariants.{Compute, Output, Where, End, If, Then, Else, Open, Close, Equals, Semicolon}
+use Rattle.lexer.specs.declared.token.Mark.TheVariants.{Where, End, Open, Equals, Semicolon}
 use Rattle.lexer.specs.declared.token.Token.{Token}
 use Rattle.lexer.specs.declared.token.Token.TheVariants as word
-use Rattle.grammar.specs.Grammar.{levels, prefix_level, choice_level, Tree, leaf, bracket, prefix, infix', choice, level_of, Fits, symbol, words, Equation, equation_words, body_words, text_words, Nameable, Formed, AllFormed, Text, Viable}
-use Rattle.grammar.specs.Machine.{Frame, group, operand, right, test, branch, other, Spot, due, read, as_infix, fitting, and_then, takes, go_on, code, is, only, close, minus, begin_prefix, begin_mark, begin, advance, State, header, name, equals, inside, ended, nameable, begin_equation, whole, whole_at, end_equation, enter, after_header, step, run, start}
+use Rattle.grammar.specs.Grammar.{words, Equation}
+use Rattle.grammar.specs.Machine.{Spot, due, and_then, takes, go_on, is, State, header, name, equals, inside, ended, nameable, begin_equation, end_equation, enter, after_header, step, run, start}
 use Rattle.lexer.specs.declared.lexer.Next.TheVariants.{Word, Finish, Bad}
 use Rattle.syntax.specs.declared.refusal.Refusal.{Refusal}
 use Rattle.lexer.specs.Lexer.{skip, scan}
 use Rattle.syntax.specs.declared.refusal.Refusal.TheVariants.{NoWord, Unexpected}
-use Rattle.syntax.specs.Reading.{Marked, Kept, Moved, Turned, none, wrong as wrong_word, HeadRead, AnotherRead, opened, opened_by, Expression, Whole, Missing, halted, other_word, Lies, Halt, bad, over, Stuck, no_word as stuck-word, no_such, too_deep as stuck-deep, Broken}
-use Rattle.syntax.specs.Judgement.{Way, Due, Ended, HeaderRead, EquationRead, FinishRead, Judged, at_word, longest_text, Wrong, no_word, too_short, no_text, too_deep, Refused, Accepted}
-use Rattle.grammar.proofs.Parts.{some_is, none-some}
+use Rattle.syntax.specs.Reading.{Marked, Kept, Turned, none, wrong as wrong_word, AnotherRead, opened, opened_by, Expression, Whole, Missing, halted, other_word, Lies, Halt, bad, over, Stuck, no_word as stuck-word, no_such, too_deep as stuck-deep, Broken}
+use Rattle.syntax.specs.Judgement.{Way, Due, Ended, HeaderRead, EquationRead, Wrong, no_word, too_short, no_text, too_deep, Refused, Accepted}
+use Rattle.grammar.proofs.Parts.{some_is}
 use Rattle.grammar.proofs.Complete.{along, not-viable, run-append}
 use Rattle.grammar.proofs.Exact.{lives-viable, text-ends, decides}
 use Rattle.syntax.proofs.Steps.{tip, at-tip, lies-append}

@@ -1,11 +1,10 @@
 -- At most one answer fits the bytes: words that lie from one place on are each other's beginnings. Assumes nothing.
-use Rattle.std.proofs.Common.{◌≡◌, ℕ, ◌+◌, ◌<◌, ◌≤◌, List, [], ◌∷◌, ◌++◌, length, sym, refl, ap, ◌∙◌, subst, append_assoc, append-nil, arith}
+use Rattle.std.proofs.Common.{◌≡◌, ℕ, ◌+◌, ◌≤◌, List, [], ◌∷◌, ◌++◌, length, sym, refl, ap, ◌∙◌, subst, append_assoc, append-nil, arith}
 use Rattle.lexer.specs.declared.token.Mark.TheVariants.{Open}
 use Rattle.lexer.specs.declared.token.Token.{Token}
 use Rattle.lexer.specs.declared.token.Token.TheVariants as word
-use Rattle.lexer.specs.declared.lexer.Next.TheVariants.{Word, Finish, Bad}
+use Rattle.lexer.specs.declared.lexer.Next.TheVariants.{Word, Finish}
 use Rattle.syntax.specs.declared.refusal.Refusal.{Refusal}
-use Rattle.syntax.specs.declared.refusal.Refusal.TheVariants.{TooLong, NoWord, Unexpected, TooDeep}
 use Rattle.grammar.specs.Grammar.{Text, Viable}
 use Rattle.lexer.specs.Lexer.{skip, scan}
 use Rattle.syntax.specs.Reading.{opened, limit, Lies}

@@ -1,8 +1,7 @@
 -- What each step of the expression reader shows. Assumes nothing.
-use Rattle.std.proofs.Common.{◌≡◌, ℕ, ◌+◌, ◌-◌, ◌<◌, ◌≤◌, Bool, true, false, cond, ◌&&◌, eqb, leb, ◌⊎◌, List, [], ◌∷◌, ◌++◌, map, get_or, Some, None, Ok, Err, Option, Result, sym, refl, ap, ◌∙◌, subst, inl, inr, append_assoc, append-nil, arith}
-use Rattle.std.proofs.lemmas.Bool.{leb-true, and_parts, eqb-true, le-leb, lt-leb, cond-true, cond-false}
+use Rattle.std.proofs.Common.{◌≡◌, ℕ, ◌+◌, ◌-◌, ◌<◌, ◌≤◌, false, List, [], ◌∷◌, ◌++◌, Some, None, Ok, Err, Option, Result, sym, refl, ap, ◌∙◌, subst, append_assoc, arith}
+use Rattle.std.proofs.lemmas.Bool.{le-leb, lt-leb, cond-true, cond-false}
 use Rattle.lexer.specs.declared.token.Atom.{Atom}
-use Rattle.lexer.specs.declared.token.Atom.TheVariants as atom
 use Rattle.lexer.specs.declared.token.Infix.{Infix}
 use Rattle.lexer.specs.declared.token.Infix.TheVariants.{Fby, Asa, Or, And, Eq, Ne, Lt, Le, Gt, Ge, Add, Sub, Mul, Div}
 use Rattle.lexer.specs.declared.token.Prefix.{Prefix}
@@ -11,17 +10,17 @@ use Rattle.lexer.specs.declared.token.Mark.{Mark}
 use Rattle.lexer.specs.declared.token.Mark.TheVariants.{Compute, Output, Where, End, If, Then, Else, Open, Close, Equals, Semicolon}
 use Rattle.lexer.specs.declared.token.Token.{Token}
 use Rattle.lexer.specs.declared.token.Token.TheVariants as word
-use Rattle.grammar.specs.Grammar.{levels, prefix_level, choice_level, Tree, leaf, bracket, prefix, infix', choice, level_of, Fits, symbol, words, Equation, equation_words, body_words, text_words, Nameable, Formed, AllFormed, Text, Viable}
-use Rattle.grammar.specs.Machine.{Frame, group, operand, right, test, branch, other, Spot, due, read, as_infix, fitting, and_then, takes, go_on, code, is, only, close, minus, begin_prefix, begin_mark, begin, advance, State, header, name, equals, inside, ended, nameable, begin_equation, whole, whole_at, end_equation, enter, after_header, step, run, start, Stops}
+use Rattle.grammar.specs.Grammar.{levels, prefix_level, choice_level, Tree, leaf, bracket, prefix, infix', choice, level_of, Fits, symbol, words, Equation}
+use Rattle.grammar.specs.Machine.{Frame, group, operand, right, test, branch, other, Spot, due, read, and_then, takes, go_on, is, close, minus, begin_prefix, begin, advance, State, inside, whole, whole_at, end_equation, enter, run, Stops}
 use Rattle.lexer.specs.declared.lexer.Next.TheVariants.{Word, Finish, Bad}
 use Rattle.syntax.specs.declared.reader.Part.{Part}
 use Rattle.syntax.specs.declared.refusal.Refusal.{Refusal}
 use Rattle.syntax.specs.declared.refusal.Refusal.TheVariants.{NoWord, Unexpected, TooDeep}
 use Rattle.lexer.specs.Lexer.{skip, scan}
 use Rattle.grammar.specs.Machine.{as_prefix}
-use Rattle.syntax.specs.Reading.{opened_by, opened, limit, Lies, Halt, bad, over, Missing, halted, other_word, Expression, Whole, Stuck, no_word, no_such, too_deep, Broken, Begins, OperandRead, Moved, Kept}
-use Rattle.grammar.proofs.Parts.{some_is, none-some, refit, Taken, taken}
-use Rattle.grammar.proofs.Complete.{fits-level, mark-stops, along, run-append, takes-op, left-stops, begins, left-fits, infix-left}
+use Rattle.syntax.specs.Reading.{opened_by, opened, Lies, Halt, bad, Missing, halted, other_word, Expression, Whole, Stuck, no_word, no_such, too_deep, Broken, Begins, OperandRead, Moved, Kept}
+use Rattle.grammar.proofs.Parts.{some_is, none-some, refit, taken}
+use Rattle.grammar.proofs.Complete.{mark-stops, along, run-append, begins, infix-left}
 
 -- where the machine stands inside the tree's last operand, once the tree's words are read
 abbrev pub tip : List Frame → ℕ → Tree → Spot

@@ -1,12 +1,11 @@
 -- How the unchecked table is filled.
-use Rattle.std.specs.Prelude.{ℕ, ◌+◌, Bool, true, false, cond, List, replicate, Some, None, fold, Option, nat_lt, slice_set}
+use Rattle.std.specs.Prelude.{ℕ, ◌+◌, cond, List, replicate, Some, None, fold, Option, nat_lt, slice_set}
 use Rattle.lexer.specs.declared.token.Atom.{Atom}
 use Rattle.lexer.specs.declared.token.Atom.TheVariants as atom
 use Rattle.syntax.specs.declared.draft.Operand.{Operand}
 use Rattle.syntax.specs.declared.draft.Operand.TheVariants as operand
 use Rattle.syntax.specs.declared.draft.Node.{Node}
 use Rattle.syntax.specs.declared.draft.Node.TheVariants as node
-use Rattle.syntax.specs.declared.draft.Equation.{Equation}
 use Rattle.syntax.specs.declared.draft.Draft.{Draft}
 use Rattle.syntax.specs.Terms.{Term, name, channel, literal, truth, before, between, chosen, Definition}
 

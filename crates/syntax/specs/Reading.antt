@@ -6,12 +6,11 @@ use Rattle.lexer.specs.declared.token.Mark.{Mark}
 use Rattle.lexer.specs.declared.token.Mark.TheVariants.{Compute, Output, Where, End, If, Then, Else, Open, Close, Equals, Semicolon}
 use Rattle.lexer.specs.declared.token.Token.{Token}
 use Rattle.lexer.specs.declared.token.Token.TheVariants as word
-use Rattle.lexer.specs.declared.lexer.Next.{Next}
 use Rattle.lexer.specs.declared.lexer.Next.TheVariants.{Word, Finish, Bad}
 use Rattle.syntax.specs.declared.reader.Part.{Part}
 use Rattle.syntax.specs.declared.refusal.Refusal.{Refusal}
 use Rattle.syntax.specs.declared.refusal.Refusal.TheVariants.{NoWord, Unexpected, TooDeep}
-use Rattle.grammar.specs.Grammar.{levels, prefix_level, choice_level, Tree, leaf, bracket, prefix, infix', choice, level_of, Fits, words, Equation}
+use Rattle.grammar.specs.Grammar.{Tree, level_of, Fits, words, Equation}
 use Rattle.grammar.specs.Machine.{Frame, Spot, due, takes, is, nameable, begin_equation, State, inside, run, Stops}
 use Rattle.lexer.specs.Lexer.{skip, scan}
 

@@ -1,13 +1,13 @@
 -- Which edges a table has.
-use Rattle.std.proofs.Common.{◌≡◌, ℕ, zero, suc, ◌+◌, ◌<◌, ◌≤◌, Bool, true, false, ◌⊎◌, List, [], ◌∷◌, ◌++◌, map, length, get_or, Err, MatchBool, sym, refl, ap, ◌∙◌, subst, inl, inr, add-one, arith}
+use Rattle.std.proofs.Common.{◌≡◌, ℕ, zero, suc, ◌+◌, ◌<◌, ◌≤◌, Bool, true, false, ◌⊎◌, List, [], ◌∷◌, ◌++◌, map, length, get_or, Err, MatchBool, sym, ap, ◌∙◌, subst, inl, inr, add-one, arith}
 use native.Mathlib.Decide.{ℕ_discrete}
 use Rattle.std.specs.List.{ContainsAt as Has, AllByRecursion as All}
-use Rattle.std.proofs.lemmas.List.{get_or-map, length-map, get_or_default, append_assoc}
+use Rattle.std.proofs.lemmas.List.{get_or-map, length-map, append_assoc}
 use Rattle.std.proofs.ByRecursion.{All-append, All-map, All-weaker, all_has_itself, all-has, has_append_left, has_append_right}
 use Rattle.reading.specs.declared.rows.Arithmetic.{Arithmetic}
 use Rattle.reading.specs.declared.rows.Relation.{Relation}
 use Rattle.reading.specs.declared.rows.Row.{Row}
-use Rattle.reading.specs.declared.rows.Row.TheVariants.{Literal, Truth, And, Or, Compute, Relate}
+use Rattle.reading.specs.declared.rows.Row.TheVariants.{Literal, And, Or, Compute, Relate}
 use Rattle.theory.specs.Rule.{row_at}
 use Rattle.theory.specs.Potential.{edges, Label, level}
 use Rattle.graph.specs.declared.edges.Edge.{Edge}

@@ -1,5 +1,5 @@
 -- A loop over a checked table finds each reading where it looks for it.
-use Rattle.std.proofs.Common.{◌≡◌, ℕ, zero, suc, ◌+◌, ◌-◌, ◌<◌, ◌≤◌, Bool, true, false, cond, ◌⊎◌, List, length, get_or, take, sum_by, sum, sym, refl, ap, ◌∙◌, subst, inl, inr, arith}
+use Rattle.std.proofs.Common.{◌≡◌, ℕ, ◌+◌, ◌-◌, ◌<◌, ◌≤◌, Bool, true, cond, List, length, get_or, take, sum_by, sum, sym, refl, ap, ◌∙◌, subst, inl, inr, arith}
 use Rattle.std.specs.List.{ContainsAt as Has, AllByRecursion as All}
 use Rattle.std.proofs.lemmas.List.{get_or-take, take-take, take_all}
 use Rattle.std.proofs.lemmas.List.Sums.{sum_by_more, sum_by-take-le}
@@ -14,10 +14,9 @@ use Rattle.graph.specs.Depths.{asks}
 use Rattle.table.specs.Orders.{Listed, InStep}
 use Rattle.graph.specs.Plans as graph
 use Rattle.table.specs.declared.place.Place.{Place}
-use Rattle.table.specs.declared.schedule.Schedule.{Schedule}
 use Rattle.table.specs.Edges.{labelled, edge_of, table_edges, Closed}
 use Rattle.table.specs.Layout.{Layout, Planned, Edge, Side, EachEdge, EachSide, place_at, position_at, no_place, is_asa}
-use Rattle.table.specs.Tables.{Greatest, held, asas, place_of, Placed, Inverse, Checked, layout}
+use Rattle.table.specs.Tables.{Greatest, held, asas, place_of, Placed, Inverse, layout}
 use Rattle.table.specs.Laws.{TablePlans}
 use Rattle.table.proofs.Edges.{has-edge}
 

@@ -1,8 +1,7 @@
 -- The ranks and stages of a checked table are a potential of its rows.
-use Rattle.std.proofs.Common.{◌≡◌, ℕ, ◌+◌, ◌*◌, ◌^◌, ◌<◌, ◌≤◌, Bool, List, length, get_or, is_some, Some, None, MatchBool, Option, sym, subst, arith, MatchOption}
+use Rattle.std.proofs.Common.{ℕ, ◌+◌, ◌*◌, ◌^◌, ◌<◌, ◌≤◌, List, length, get_or, sym, subst, arith}
 use mathlib.Core.Logic.{∥∥₁_elim}
 use native.Mathlib.Bridge.{le_prop}
-use Rattle.table.specs.declared.table.Table.{Table}
 use Rattle.std.specs.List.{ContainsAt as Has, AllByRecursion as All}
 use Rattle.std.proofs.ByRecursion.{all-has, All-weaker, all_has_itself}
 use Rattle.reading.specs.declared.rows.Row.{Row}
@@ -14,8 +13,8 @@ use Rattle.table.specs.Layout.{Planned}
 use Rattle.table.specs.Tables.{Checked, Sound, rows_of, layout}
 use Rattle.table.proofs.Loops.{table-plans}
 use Rattle.table.proofs.Props.{planned-prop, down-prop, all_prop}
-use Rattle.graph.specs.Labels.{plus, minus, infinite, SomeOtherRing}
-use Rattle.table.specs.Edges.{labelled, edge_of, table_edges}
+use Rattle.graph.specs.Labels.{plus, minus, infinite}
+use Rattle.table.specs.Edges.{labelled, edge_of}
 use Rattle.table.specs.Laws.{DeterminedBy, DeterminedRows}
 use Rattle.table.proofs.Edges.{has-edge}
 

@@ -1,5 +1,5 @@
 -- The edges of a table of rows: from each row to each row that it reads.
-use Rattle.std.specs.Prelude.{ℕ, zero, suc, ◌<◌, List, [], ◌∷◌, ◌++◌, map, length, take}
+use Rattle.std.specs.Prelude.{ℕ, zero, suc, ◌<◌, List, [], ◌++◌, map, length, take}
 use Rattle.std.specs.List.{AllByRecursion as All}
 use Rattle.reading.specs.declared.rows.Row.{Row}
 use Rattle.theory.specs.Rule.{row_at}

@@ -7,7 +7,7 @@ use Rattle.table.specs.Orders.{Listed, InStep}
 use Rattle.table.specs.declared.place.Place.{Place}
 use Rattle.table.specs.declared.schedule.Schedule.{Schedule}
 use Rattle.table.specs.Edges.{table_edges, Closed}
-use Rattle.table.specs.Layout.{Layout, Planned, no_place, is_asa}
+use Rattle.table.specs.Layout.{Layout, no_place, is_asa}
 
 abbrev pub rows_of : Schedule → List Row
 rows_of t = take t.count t.rows

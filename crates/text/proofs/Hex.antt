@@ -1,5 +1,5 @@
 -- One more hexadecimal digit.
-use Rattle.std.proofs.Common.{◌≡◌, ℕ, zero, suc, ◌-◌, ◌/◌, ◌%◌, ◌<◌, List, [], ◌∷◌, ◌++◌, arith}
+use Rattle.std.proofs.Common.{◌≡◌, ℕ, zero, suc, ◌-◌, ◌/◌, ◌%◌, ◌<◌, [], ◌∷◌, ◌++◌, arith}
 use Rattle.text.specs.Hexadecimal.{hex_digit, hex_text}
 
 pub hex-none : (k n : ℕ) → k ≡ 0 → [] ≡ hex_text k n

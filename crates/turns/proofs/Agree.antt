@@ -1,5 +1,5 @@
 -- The reading that a row's operands decide is that of every sheet that fits.
-use Rattle.std.proofs.Common.{◌≡◌, ℕ, zero, suc, ◌+◌, ◌-◌, ◌<◌, ◌≤◌, ◌⊎◌, List, length, get_or, sym, refl, ap, ◌∙◌, subst, inl, inr, add-one, arith}
+use Rattle.std.proofs.Common.{◌≡◌, ℕ, zero, suc, ◌-◌, ◌<◌, List, length, sym, refl, ap, ◌∙◌, inl, inr, arith}
 use Rattle.std.proofs.lemmas.Bool.{cases_lt}
 use Rattle.reading.specs.declared.faults.Reading.{Reading}
 use Rattle.reading.specs.declared.rows.Row.{Row}
@@ -7,9 +7,8 @@ use Rattle.reading.specs.declared.rows.Row.TheVariants.{Literal, Truth, Channel,
 use Rattle.kind.specs.Kinds.{Meaning}
 use Rattle.theory.specs.Says.{Says}
 use Rattle.theory.specs.Rule.{Sheet, Fits, rule, row_at, followed}
-use Rattle.table.specs.Layout.{Layout, Planned, Edge, EachEdge, place_at, position_at}
-use Rattle.turns.specs.Holds.{At, slot}
-use Rattle.turns.specs.Reads.{decided, Has, Left, Right, Third, Ready, EachRow, Within}
+use Rattle.table.specs.Layout.{Layout, Planned, Edge, EachEdge, position_at}
+use Rattle.turns.specs.Reads.{decided, Left, Right, Third, Ready, EachRow, Within}
 
 -- A cell holds one thing.
 pub one_at : {A : Type 0} {cell : A → A} {x y : A} → ((d : A) → cell d ≡ x) → ((d : A) → cell d ≡ y) → x ≡ y

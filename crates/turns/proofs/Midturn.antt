@@ -1,14 +1,14 @@
 -- The invariant within a turn.
-use Rattle.std.proofs.Common.{◌≡◌, ℕ, ◌+◌, ◌-◌, ◌%◌, ◌<◌, ◌≤◌, ◌≢◌, ◌⊎◌, List, length, get_or, set, sym, refl, ap, ◌∙◌, subst, inl, inr, eq-or-lt_of_le, arith, get_or-set_other, get_or-set_same}
+use Rattle.std.proofs.Common.{◌≡◌, ℕ, ◌+◌, ◌-◌, ◌%◌, ◌<◌, ◌≤◌, ◌≢◌, List, length, get_or, set, sym, refl, ap, ◌∙◌, subst, inl, inr, eq-or-lt_of_le, arith, get_or-set_other, get_or-set_same}
 use Rattle.std.proofs.lemmas.Bool.{cases_lt, cases_eq}
 use Rattle.reading.specs.declared.faults.Reading.{Reading}
 use Rattle.reading.specs.declared.rows.Row.{Row}
 use Rattle.reading.specs.declared.rows.Row.TheVariants.{Literal, Truth, Channel, Same, First, Next, Fby, Asa, If, And, Or, Not, Negate, Compute, Relate}
 use Rattle.theory.specs.Rule.{Sheet, row_at}
 use Rattle.table.specs.Layout.{Layout, Planned, Edge, EachEdge, is_asa, place_at, position_at}
-use Rattle.turns.specs.Holds.{At, slot, Window, Holds, Midst, Kept}
+use Rattle.turns.specs.Holds.{slot, Window, Holds, Midst, Kept}
 use Rattle.turns.specs.Reads.{Has, Ready}
-use Rattle.turns.proofs.Slots.{slot-below, slot-inside, apart, slots-differ}
+use Rattle.turns.proofs.Slots.{slot-inside, apart, slots-differ}
 
 module _ {V : Type 0} (l : Layout) (p : Planned l) (cells : List (Reading V)) (σ : Sheet V) (s j k : ℕ)
     (m : Midst l (position_at l) cells σ s j k) where

@@ -1,5 +1,5 @@
 -- The search of the `asa` rows of a stage: what one write to a row's cell leaves, and how a search ends.
-use Rattle.std.proofs.Common.{◌≡◌, ℕ, suc, ◌+◌, ◌-◌, ◌%◌, ◌<◌, ◌≤◌, Bool, true, false, ◌&&◌, eqb, ◌≢◌, ◌⊎◌, List, length, get_or, set, Some, None, sym, refl, ap, ◌∙◌, subst, inl, inr, eq-or-lt_of_le, arith, get_or-set_other, get_or-set_same}
+use Rattle.std.proofs.Common.{◌≡◌, ℕ, ◌+◌, ◌-◌, ◌<◌, ◌≤◌, Bool, true, false, ◌≢◌, ◌⊎◌, List, length, get_or, set, Some, None, sym, ap, ◌∙◌, subst, inl, inr, eq-or-lt_of_le, arith, get_or-set_other, get_or-set_same}
 use Rattle.std.proofs.lemmas.Bool.{cases_lt, cases_eq, cases_Bool, both_ways, and_parts, and_from, eqb-true, eq-eqb}
 use Rattle.reading.specs.declared.faults.FaultNumber.TheVariants.{Unreached}
 use Rattle.reading.specs.declared.faults.Reading.{Reading}
@@ -8,8 +8,8 @@ use Rattle.kind.specs.Kinds.{Meaning}
 use Rattle.theory.specs.Says.{Says}
 use Rattle.theory.specs.Rule.{Sheet, Fits, row_at, is, born}
 use Rattle.table.specs.Layout.{Layout, Planned, is_asa, place_at, position_at}
-use Rattle.turns.specs.Holds.{At, slot, Holds, Settled, Kept}
-use Rattle.turns.specs.Searches.{searching, found_at, Ends, Sought, Begun, Seeking, SoughtRow, SoughtAll}
+use Rattle.turns.specs.Holds.{At, Holds, Settled, Kept}
+use Rattle.turns.specs.Searches.{searching, Ends, Sought, Begun, Seeking, SoughtRow, SoughtAll}
 use Rattle.turns.specs.Reads.{Has}
 use Rattle.turns.specs.Ticks.{Untouched}
 use Rattle.turns.proofs.Slots.{slot-inside}

@@ -1,5 +1,5 @@
 -- The cells of the windows.
-use Rattle.std.proofs.Common.{◌≡◌, ℕ, suc, ◌+◌, ◌-◌, ◌*◌, ◌/◌, ◌%◌, ◌<◌, ◌≤◌, ◌≢◌, ◌⊎◌, length, sym, refl, ap, ◌∙◌, subst, inl, inr, mod-lt, mul-le-mul_left, mul-suc, arith}
+use Rattle.std.proofs.Common.{ℕ, ◌+◌, ◌/◌, ◌%◌, ◌<◌, ◌≢◌, length, inl, inr, mod-lt, mul-le-mul_left, mul-suc, arith}
 use native.Mathlib.Nat.{div-add-mod}
 use Rattle.std.proofs.lemmas.Bool.{cases_lt}
 use Rattle.table.specs.Layout.{Layout, Planned, place_at}

@@ -1,9 +1,9 @@
 -- What the cells hold of a sheet.
-use Rattle.std.specs.Prelude.{◌≡◌, ℕ, ◌+◌, ◌-◌, ◌%◌, ◌<◌, ◌≤◌, true, List, length, slice_index_or}
+use Rattle.std.specs.Prelude.{◌≡◌, ℕ, ◌+◌, ◌%◌, ◌<◌, ◌≤◌, true, List, length, slice_index_or}
 use Rattle.reading.specs.declared.faults.Reading.{Reading}
 use Rattle.theory.specs.Rule.{Sheet, row_at}
 use Rattle.table.specs.declared.place.Place.{Place}
-use Rattle.table.specs.Layout.{Layout, Planned, place_at, is_asa}
+use Rattle.table.specs.Layout.{Layout, place_at, is_asa}
 
 -- The cell i holds x.
 abbrev pub At : {A : Type 0} → List A → ℕ → A → Type 0

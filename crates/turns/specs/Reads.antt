@@ -1,7 +1,6 @@
 -- The operands of a row in its turn, and the reading that they decide.
-use Rattle.std.specs.Prelude.{◌≡◌, ℕ, ◌+◌, ◌-◌, ◌<◌, Bool, true, false, cond, not, ◌&&◌, ◌||◌, List, length, get_or}
+use Rattle.std.specs.Prelude.{◌≡◌, ℕ, ◌+◌, ◌-◌, ◌<◌, true, false, List, length}
 use Rattle.reading.specs.Faults.{of_kind, of_source}
-use Rattle.reading.specs.declared.faults.FaultNumber.{FaultNumber}
 use Rattle.reading.specs.declared.faults.FaultNumber.TheVariants.{WrongKind}
 use Rattle.reading.specs.declared.faults.Reading.{Reading}
 use Rattle.reading.specs.declared.rows.Row.{Row}

@@ -1,8 +1,8 @@
-use Rattle.std.proofs.Common.{◌≡◌, ℕ, suc, ◌+◌, ◌-◌, ◌*◌, ◌/◌, ◌%◌, ◌<◌, ◌≤◌, ◌≢◌, ◌⊎◌, List, [], ◌∷◌, ◌++◌, length, get_or, set, Some, sym, refl, ap, ◌∙◌, subst, inl, inr, mod-lt, mul-le-mul_left, mul-suc, arith, length-append, length-set, get_or-set_other, get_or-set_same}
+use Rattle.std.proofs.Common.{◌≡◌, ℕ, ◌+◌, ◌/◌, ◌%◌, ◌<◌, ◌≤◌, ◌≢◌, List, [], ◌∷◌, ◌++◌, length, get_or, set, Some, sym, ap, ◌∙◌, mod-lt, mul-le-mul_left, mul-suc, arith, length-append, length-set, get_or-set_other, get_or-set_same}
 use native.Mathlib.Nat.{div-add-mod}
 use native.Mathlib.Decide.{dec_lt}
 use Rattle.std.proofs.lemmas.List.{get_or_append_left, get_or_at, get_or_default, set_past}
-use Rattle.window.specs.Windows.{Holds, entry_at, recalled}
+use Rattle.window.specs.Windows.{Holds, entry_at}
 
 -- two ticks less than a depth apart have cells of their own
 pub apart : (d k n : ℕ) → k < n → n < k + d → k % d ≢ n % d

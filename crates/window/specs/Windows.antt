@@ -1,5 +1,5 @@
 -- What a window of cells holds: the last entries of a history, each at its tick modulo the number of cells.
-use Rattle.std.specs.Prelude.{◌≡◌, ℕ, zero, suc, ◌+◌, ◌%◌, ◌<◌, ◌≤◌, List, [], ◌∷◌, length, Some, None, Option, slice_index_or}
+use Rattle.std.specs.Prelude.{◌≡◌, ℕ, ◌+◌, ◌%◌, ◌<◌, ◌≤◌, List, [], ◌∷◌, length, Some, None, Option, slice_index_or}
 
 -- Every tick of the history that is no older than the depth stands in its cell.
 abbrev pub Holds : {A : Type 0} → List A → List A → Type 0

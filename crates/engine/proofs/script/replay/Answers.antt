@@ -1,8 +1,7 @@
-use Rattle.std.proofs.Common.{◌≡◌, ℕ, ◌+◌, ◌<◌, ◌≤◌, [], ◌∷◌, ◌++◌, length, get_or, vec_items, vec_len, sym, refl, ap, ◌∙◌, subst, arith}
+use Rattle.std.proofs.Common.{◌≡◌, ◌+◌, length, get_or, vec_items, sym, refl, ap, ◌∙◌, subst, arith}
 use Rattle.std.proofs.lemmas.Result.{IfOk-from_err}
 use Rattle.table.specs.Tables.{layout}
 use Rattle.engine.specs.declared.calls.Call.TheVariants.{Open}
-use Rattle.engine.specs.declared.calls.Answer.TheVariants.{Absent}
 use Rattle.engine.specs.Law.{Right, record_of, AllRight}
 use Rattle.engine.specs.Tells.{laid, Tells}
 use Rattle.engine.proofs.Records.{all_more, tells_more, stays_same, stays-more}

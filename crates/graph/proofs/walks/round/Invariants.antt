@@ -1,4 +1,3 @@
-use Rattle.std.proofs.Common.{◌≡◌, length}
 use Rattle.graph.proofs.Rounds.{Part}
 use Rattle.graph.proofs.walks.round.Given as goal
 

@@ -1,4 +1,3 @@
-use Rattle.std.proofs.Common.{◌≡◌, length}
 use Rattle.graph.specs.Relaxing.{Rounds}
 use Rattle.graph.proofs.walks.rounds.Given as goal
 

@@ -1,4 +1,4 @@
-use Rattle.std.proofs.Common.{sym, ap, ◌∙◌, arith, rules}
+use Rattle.std.proofs.Common.{sym, ap, ◌∙◌, arith}
 use Rattle.lexer.specs.Lexer.{in_run}
 use Rattle.lexer.proofs.Runs.{run_more, run-stop, run-all}
 use Rattle.lexer.proofs.lexer.run_end.Goals as goal

@@ -1,4 +1,4 @@
-use Rattle.std.proofs.Common.{◌+◌, ◌<◌, length, sym, ap, ◌∙◌, inl, inr, arith}
+use Rattle.std.proofs.Common.{◌+◌, sym, ap, ◌∙◌, inl, inr, arith}
 use Rattle.lexer.specs.declared.lexer.Class.TheVariants.{Letter, Digit, Blank, Sign, Other}
 use Rattle.lexer.specs.declared.lexer.Next.TheVariants.{Word}
 use Rattle.lexer.proofs.Runs.{scan-finish, scan-class}

@@ -1,4 +1,4 @@
-use Rattle.std.proofs.Common.{◌≡◌, length, Ok, Err, refl, ap, ◌∙◌, rules}
+use Rattle.std.proofs.Common.{◌≡◌, Err, refl, ap, ◌∙◌, rules}
 use Rattle.table.proofs.Potential.{sound-determines}
 use Rattle.listing.specs.declared.refusal.Refusal.TheVariants.{Recording, Run}
 use Rattle.listing.proofs.Trying.{refused-run, accepted-run}

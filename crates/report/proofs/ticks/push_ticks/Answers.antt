@@ -1,4 +1,4 @@
-use Rattle.std.proofs.Common.{◌≡◌, ℕ, ◌<◌, refl, ap, arith}
+use Rattle.std.proofs.Common.{◌≡◌, ◌<◌, refl, ap, arith}
 use Rattle.engine.specs.Tells.{laid}
 use Rattle.engine.proofs.Records.{stays-more}
 use Rattle.report.specs.Reports.{lines_text}

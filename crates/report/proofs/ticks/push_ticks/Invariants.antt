@@ -1,4 +1,3 @@
-use Rattle.std.proofs.Common.{ℕ}
 use Rattle.engine.specs.Tells.{Stays, laid}
 use Rattle.text.specs.Pushed.{Pushed}
 use Rattle.theory.specs.Rule.{Sheet, Fits}

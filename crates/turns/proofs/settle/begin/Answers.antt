@@ -1,4 +1,4 @@
-use Rattle.std.proofs.Common.{◌≡◌, ◌+◌, ◌-◌, ◌<◌, ◌≤◌, true, false, length, get_or, set, sym, refl, ap, ◌∙◌, subst, arith, length-set, rules}
+use Rattle.std.proofs.Common.{◌≡◌, ◌+◌, ◌-◌, ◌<◌, ◌≤◌, true, false, length, get_or, set, sym, ap, ◌∙◌, subst, arith, length-set, rules}
 use Rattle.reading.specs.declared.faults.FaultNumber.TheVariants.{Unreached}
 use Rattle.theory.specs.Rule.{born}
 use Rattle.table.specs.Layout.{place_at}

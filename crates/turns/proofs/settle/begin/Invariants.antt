@@ -1,4 +1,4 @@
-use Rattle.std.proofs.Common.{◌≡◌, ℕ, ◌-◌, length}
+use Rattle.std.proofs.Common.{◌≡◌, ◌-◌, length}
 use Rattle.theory.specs.Rule.{Sheet}
 use Rattle.table.specs.Views.{seen}
 use Rattle.turns.specs.Holds.{Settled}

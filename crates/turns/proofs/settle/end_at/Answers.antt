@@ -1,4 +1,4 @@
-use Rattle.std.proofs.Common.{◌≡◌, true, false, sym, ap, ◌∙◌}
+use Rattle.std.proofs.Common.{false, sym, ap, ◌∙◌}
 use Rattle.theory.specs.Rule.{is}
 use Rattle.turns.specs.Searches.{found_at}
 use Rattle.turns.proofs.Agree.{one_at}

@@ -1,7 +1,6 @@
-use Rattle.std.proofs.Common.{◌≡◌, ℕ, ◌+◌, ◌-◌, ◌<◌, ◌≤◌, length, sym, refl, ap, ◌∙◌, subst, inl, inr, arith, rules}
-use Rattle.theory.specs.Rule.{Sheet, Fits}
+use Rattle.std.proofs.Common.{◌≡◌, ◌+◌, ◌-◌, ◌≤◌, sym, refl, ◌∙◌, subst, inl, inr, arith}
 use Rattle.table.specs.Views.{seen}
-use Rattle.turns.specs.Holds.{Holds, Settled}
+use Rattle.turns.specs.Holds.{Holds}
 use Rattle.turns.specs.Searches.{Seeking}
 use Rattle.turns.specs.Ticks.{Untouched}
 use Rattle.turns.proofs.Settling.{holds-none}

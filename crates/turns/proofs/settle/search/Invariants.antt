@@ -1,4 +1,4 @@
-use Rattle.std.proofs.Common.{ℕ, ◌+◌, ◌-◌}
+use Rattle.std.proofs.Common.{◌-◌}
 use Rattle.theory.specs.Rule.{Sheet, Fits}
 use Rattle.table.specs.Views.{seen}
 use Rattle.turns.specs.Holds.{Holds, Settled}

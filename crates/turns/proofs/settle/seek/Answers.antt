@@ -1,4 +1,4 @@
-use Rattle.std.proofs.Common.{◌≡◌, ◌+◌, ◌-◌, ◌<◌, ◌≤◌, length, get_or, sym, refl, ap, ◌∙◌, subst, arith, rules}
+use Rattle.std.proofs.Common.{◌≡◌, length, get_or, refl, ◌∙◌, subst, arith}
 use Rattle.table.specs.Views.{seen}
 use Rattle.turns.specs.Searches.{Seeking}
 use Rattle.turns.proofs.Searching.{sought-one, sought-all}

@@ -1,13 +1,10 @@
-use Rattle.std.proofs.Common.{◌≡◌, ◌+◌, ◌-◌, ◌<◌, ◌≤◌, true, false, length, get_or, set, sym, refl, ap, ◌∙◌, subst, arith, rules}
-use Rattle.theory.specs.Rule.{row_at}
-use Rattle.reading.specs.declared.rows.Row.TheVariants.{Asa}
+use Rattle.std.proofs.Common.{◌≡◌, ◌+◌, ◌<◌, true, false, length, set, sym, refl, ap, subst, arith, rules}
 use Rattle.table.specs.Layout.{place_at, is_asa}
 use Rattle.table.specs.Views.{seen}
-use Rattle.turns.specs.Holds.{Holds}
 use Rattle.turns.specs.Searches.{searching, SoughtRow}
 use Rattle.turns.specs.Ticks.{Untouched}
 use Rattle.turns.proofs.Settling.{both-sides}
-use Rattle.turns.proofs.Searching.{its-asa, sides-at, sought-on, sought-found, sought-stays, windows-stay, untouched-still}
+use Rattle.turns.proofs.Searching.{sides-at, sought-on, sought-found, sought-stays, windows-stay, untouched-still}
 use Rattle.turns.proofs.settle.seek_row.Goals as goal
 
 pub end_at-requires : goal.end_at-requires

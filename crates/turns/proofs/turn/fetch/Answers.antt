@@ -1,4 +1,4 @@
-use Rattle.std.proofs.Common.{arith, rules}
+use Rattle.std.proofs.Common.{rules}
 use Rattle.table.specs.Views.{seen}
 use Rattle.turns.proofs.Slots.{slot-fits}
 use Rattle.turns.proofs.turn.fetch.Goals as goal

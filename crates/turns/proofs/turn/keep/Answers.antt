@@ -1,4 +1,4 @@
-use Rattle.std.proofs.Common.{◌≡◌, ℕ, ◌+◌, ◌-◌, ◌%◌, ◌<◌, length, set, sym, ap, ◌∙◌, mod-lt, arith}
+use Rattle.std.proofs.Common.{◌≡◌, ◌+◌, ◌-◌, ◌%◌, ◌<◌, length, set, ap, ◌∙◌, mod-lt, arith}
 use borrow.Rule.Slice.PartMut.{mid_of, mid_len}
 use Rattle.turns.proofs.Mid.{put-mid}
 use Rattle.turns.proofs.turn.keep.Goals as goal

@@ -1,4 +1,4 @@
-use Rattle.std.proofs.Common.{◌⊎◌, inl, inr, rules}
+use Rattle.std.proofs.Common.{inl, inr, rules}
 use Rattle.turns.proofs.turn.right.Goals as goal
 
 pub returns-in-If : goal.returns-in-If

@@ -1,6 +1,5 @@
-use Rattle.std.proofs.Common.{◌≡◌, ℕ, ◌+◌, ◌<◌, ◌≤◌, sym, refl, ap, ◌∙◌, subst, arith}
+use Rattle.std.proofs.Common.{◌≡◌, ℕ, ◌+◌, ◌<◌, sym, refl, ◌∙◌, subst, arith}
 use Rattle.theory.specs.Rule.{Sheet, Fits}
-use Rattle.table.specs.Layout.{place_at}
 use Rattle.table.specs.Views.{seen}
 use Rattle.turns.specs.Holds.{Holds, Settled, Kept}
 use Rattle.turns.proofs.Agree.{one_at}

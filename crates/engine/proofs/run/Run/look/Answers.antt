@@ -1,7 +1,7 @@
-use Rattle.std.proofs.Common.{◌≡◌, ℕ, ◌+◌, ◌-◌, ◌<◌, ◌≤◌, ◌∷◌, length, sym, refl, ap, ◌∙◌, subst, arith, rules}
+use Rattle.std.proofs.Common.{◌+◌, ◌<◌, ◌≤◌, ◌∷◌, length, sym, refl, subst, arith, rules}
 use Rattle.table.proofs.Potential.{sound-plans}
 use Rattle.engine.specs.Tells.{laid}
-use Rattle.table.specs.Layout.{Layout, place_at}
+use Rattle.table.specs.Layout.{place_at}
 use Rattle.table.specs.Views.{seen}
 use Rattle.table.proofs.Props.{opened}
 use Rattle.turns.specs.Holds.{At, slot}

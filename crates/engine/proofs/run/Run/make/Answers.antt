@@ -1,5 +1,3 @@
-use Rattle.std.proofs.Common.{◌≡◌, length, sym, refl, ap, ◌∙◌, subst}
-use Rattle.engine.specs.Tells.{Stays}
 use Rattle.engine.proofs.Records.{lawful-by, stays_same}
 use Rattle.engine.proofs.run.Run.make.Goals as goal
 

@@ -1,4 +1,4 @@
-use Rattle.std.proofs.Common.{◌≡◌, ℕ, ◌+◌, ◌-◌, ◌<◌, ◌≤◌, length, sym, refl, ap, ◌∙◌, subst, arith}
+use Rattle.std.proofs.Common.{length, refl}
 use Rattle.table.proofs.Potential.{sound-plans}
 use Rattle.engine.specs.Tells.{laid}
 use Rattle.engine.proofs.Lawful.{open-right, opened-tells}

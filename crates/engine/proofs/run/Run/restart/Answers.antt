@@ -1,6 +1,4 @@
-use Rattle.std.proofs.Common.{◌≡◌, ℕ, ◌+◌, ◌-◌, ◌<◌, ◌≤◌, length, sym, refl, ap, ◌∙◌, subst, arith}
-use Rattle.table.proofs.Potential.{sound-plans}
-use Rattle.engine.specs.Tells.{laid}
+use Rattle.std.proofs.Common.{length, sym, refl, ◌∙◌, arith}
 use Rattle.engine.proofs.Lawful.{restart-right, some_same}
 use Rattle.engine.proofs.Records.{never}
 use Rattle.engine.proofs.run.Run.restart.Goals as goal

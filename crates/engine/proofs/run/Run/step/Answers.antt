@@ -1,4 +1,4 @@
-use Rattle.std.proofs.Common.{◌≡◌, ℕ, ◌+◌, ◌-◌, ◌<◌, ◌≤◌, length, Some, sym, refl, ap, ◌∙◌, subst, arith}
+use Rattle.std.proofs.Common.{◌≡◌, ℕ, ◌+◌, ◌<◌, ◌≤◌, length, Some, sym, refl, ap, ◌∙◌, subst, arith}
 use Rattle.table.proofs.Potential.{sound-plans}
 use Rattle.engine.specs.Tells.{laid}
 use Rattle.theory.specs.Rule.{Sheet, Fits}

@@ -1,4 +1,4 @@
-use Rattle.std.proofs.Common.{◌≡◌, ℕ, ◌+◌, ◌<◌, ◌≤◌, length, Ok, sym, refl, ap, ◌∙◌, subst, arith, rules}
+use Rattle.std.proofs.Common.{◌≤◌, length, Ok, sym, refl, ap, ◌∙◌, subst, arith}
 use Rattle.std.proofs.lemmas.Result.{err_from_is_err_and}
 use Rattle.lexer.specs.declared.token.Token.TheVariants as word
 use Rattle.lexer.specs.declared.token.Mark.TheVariants.{Open, Close, If, Then, Else}
@@ -7,7 +7,7 @@ use Rattle.lexer.specs.Lexer.{scan}
 use Rattle.grammar.specs.Machine.{group, test, branch, other, operand, right}
 use Rattle.syntax.specs.Reading.{InfixRead}
 use Rattle.grammar.proofs.Sound.{right-low}
-use Rattle.syntax.proofs.Steps.{Leads, leads-then, into, nested, no-first, refused-first, atom-read, deep-first, open-leads, if-leads, then-leads, else-leads, no-close, no-then, no-else, group-read, choice-read, prefix-leads, prefix-read, infix-leads, infix-read, no-word-after, moved_ok, moved-err, no-mark-begins, no-if-begins, operator, no-prefix-begins, low-prefix-begins, prefix-word, moved-level, moved_at, moved-x, ends_at, moved-missing, moved-marked, moved-whole, no-word-is, moved-operand, moved-kept, moved_more}
+use Rattle.syntax.proofs.Steps.{leads-then, into, nested, no-first, refused-first, atom-read, deep-first, open-leads, if-leads, then-leads, else-leads, no-close, no-then, no-else, group-read, choice-read, prefix-leads, prefix-read, infix-leads, infix-read, no-word-after, moved_ok, moved-err, no-mark-begins, no-if-begins, operator, no-prefix-begins, low-prefix-begins, prefix-word, moved-level, moved_at, moved-x, ends_at, moved-missing, moved-marked, moved-whole, no-word-is, moved-operand, moved-kept, moved_more}
 use Rattle.syntax.proofs.reader.Reader.+bracket_choice_expression_operand_prefix.Goals as goal
 
 pub bracket-returns-then-self-ge-LIMIT : goal.bracket-returns-then-self-ge-LIMIT

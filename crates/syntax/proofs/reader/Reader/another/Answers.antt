@@ -1,9 +1,8 @@
-use Rattle.std.proofs.Common.{sym, refl, ap, ◌∙◌}
+use Rattle.std.proofs.Common.{ap, ◌∙◌}
 use Rattle.std.proofs.lemmas.Result.{err_from_is_err_and}
 use Rattle.lexer.specs.declared.token.Token.TheVariants.{Mark}
 use Rattle.lexer.specs.declared.token.Mark.TheVariants.{Semicolon, End}
 use Rattle.lexer.specs.declared.lexer.Next.TheVariants.{Word}
-use Rattle.grammar.specs.Machine.{is}
 use Rattle.syntax.specs.Reading.{none, wrong}
 use Rattle.grammar.proofs.Parts.{is-other, is-no-mark}
 use Rattle.syntax.proofs.reader.Reader.another.Goals as goal

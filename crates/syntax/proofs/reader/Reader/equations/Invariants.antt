@@ -1,4 +1,4 @@
-use Rattle.std.proofs.Common.{◌≡◌, ℕ, ◌-◌, ◌≤◌, length}
+use Rattle.std.proofs.Common.{◌≡◌, ◌-◌, ◌≤◌, length}
 use Rattle.syntax.specs.Judgement.{Due}
 use Rattle.syntax.proofs.reader.Reader.equations.Given as goal
 

@@ -1,6 +1,5 @@
-use Rattle.std.proofs.Common.{sym, refl, ap, ◌∙◌}
+use Rattle.std.proofs.Common.{sym, ap, ◌∙◌}
 use Rattle.std.proofs.lemmas.Result.{err_from_is_err_and}
-use Rattle.lexer.specs.declared.token.Token.TheVariants.{Atom}
 use Rattle.lexer.specs.declared.lexer.Next.TheVariants.{Word}
 use Rattle.syntax.specs.Reading.{none, wrong}
 use Rattle.grammar.proofs.Parts.{not-head, no-head}

@@ -1,8 +1,7 @@
-use Rattle.std.proofs.Common.{◌≡◌, [], ◌∷◌, length, sym, refl, ap, ◌∙◌, subst, arith}
+use Rattle.std.proofs.Common.{[], ◌∷◌, length, refl, ap, ◌∙◌, arith}
 use Rattle.std.proofs.lemmas.Result.{err_from_is_err_and}
 use Rattle.lexer.specs.declared.token.Mark.TheVariants.{Compute, Output, Where}
 use Rattle.lexer.specs.declared.token.Token.TheVariants as word
-use Rattle.syntax.specs.Reading.{Marked}
 use Rattle.syntax.proofs.Steps.{moved_more, moved-missing, moved-marked}
 use Rattle.syntax.proofs.Judge.{way-first, mark-way, header-missing, header-end, kept-all, moved-mark}
 use Rattle.syntax.proofs.reader.Reader.header.Goals as goal

@@ -2,7 +2,6 @@ use Rattle.std.proofs.Common.{sym, refl, ap, ◌∙◌, arith}
 use Rattle.lexer.specs.declared.lexer.Next.TheVariants.{Word}
 use Rattle.grammar.specs.Machine.{takes}
 use Rattle.grammar.proofs.Parts.{taken}
-use Rattle.syntax.proofs.Steps.{whole-none, whole-end}
 use Rattle.syntax.proofs.reader.Reader.infix.Goals as goal
 
 pub returns-in-Some : goal.returns-in-Some

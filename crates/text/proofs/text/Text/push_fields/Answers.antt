@@ -1,4 +1,4 @@
-use Rattle.std.proofs.Common.{◌≡◌, length, take, ap, add-one, arith, take_all}
+use Rattle.std.proofs.Common.{ap, add-one, arith, take_all}
 use Rattle.text.specs.Fields.{fields_text, labelled}
 use Rattle.text.proofs.Chain.{pushed_then, pushed-is}
 use Rattle.text.proofs.Labels.{fields-more}

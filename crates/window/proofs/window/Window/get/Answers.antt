@@ -1,4 +1,4 @@
-use Rattle.std.proofs.Common.{◌≡◌, ◌%◌, ◌<◌, length, get_or, Some, sym, refl, ap, ◌∙◌, mod-lt}
+use Rattle.std.proofs.Common.{◌%◌, ◌<◌, length, get_or, Some, refl, ap, ◌∙◌, mod-lt}
 use Rattle.std.proofs.lemmas.List.{get_or_default}
 use Rattle.window.proofs.Ring.{entry-at}
 use Rattle.window.proofs.window.Window.get.Goals as goal

@@ -1,4 +1,4 @@
-use Rattle.std.proofs.Common.{◌≡◌, [], ◌∷◌, ◌++◌, set, sym, refl, ap, subst}
+use Rattle.std.proofs.Common.{[], ◌∷◌, ◌++◌, set, sym, refl, ap, subst}
 use Rattle.window.specs.Windows.{Holds}
 use Rattle.window.proofs.Ring.{pushed, unkept, pushed_none}
 use Rattle.window.proofs.window.Window.put.Goals as goal

@@ -1,6 +1,6 @@
 -- Every row that is read stands in the table. Assumes nothing.
 use Rattle.std.proofs.Common.{◌≡◌, ℕ, ◌+◌, ◌<◌, ◌≤◌, Bool, true, false, cond, ltb, List, [], ◌∷◌, map, length, Some, None, Option, sym, ap, ◌∙◌, subst, arith}
-use Rattle.std.specs.List.{AllByRecursion as All}
+use Rattle.std.specs.List.{AllByRecursion}
 use Rattle.std.proofs.ByRecursion.{All-get_or, All-append, All-map}
 use Rattle.std.proofs.lemmas.List.{length-append, length-map}
 use Rattle.std.proofs.lemmas.Bool.{cond_both, ltb-true}
@@ -35,7 +35,7 @@ or-zero-low m (Some k) h w = w
 
 -- A row reads only rows below the count.
 abbrev pub ReadsBelow : ℕ → Row → Type 0
-ReadsBelow count r = All (λ e. e.1 < count) (edges r)
+ReadsBelow count r = AllByRecursion (λ e. e.1 < count) (edges r)
 
 prefix-below : (count : ℕ) (u : Prefix) (x : ℕ) → x < count → ReadsBelow count (prefix_row u x)
 prefix-below count before.Negate x h = (h, tt)
@@ -76,7 +76,7 @@ module _ (es : List Equation) (count : ℕ) (some : 0 < count) (few : length es 
   node-below (node.Infix op a b) = infix-below count op (operand_row es count a) (operand_row es count b) (operand_low a) (operand_low b)
   node-below (node.Choice a b c) = (operand_low a, (operand_low b, (operand_low c, tt)))
 
-every : {X : Type 0} (P : X → Type 0) → ((x : X) → P x) → (xs : List X) → All P xs
+every : {X : Type 0} (P : X → Type 0) → ((x : X) → P x) → (xs : List X) → AllByRecursion P xs
 every P f [] = tt
 every P f (x ∷ xs) = (f x, every P f xs)
 
@@ -91,11 +91,11 @@ pub closed-rows : (es : List Equation) (ns : List Node) → 0 < length es → Cl
 closed-rows es ns h =
     let count = length es + length ns in
     let below = node-below es count (omega arith) (omega arith) in
-    let all : All (ReadsBelow count) (table_rows es ns) =
+    let all : AllByRecursion (ReadsBelow count) (table_rows es ns) =
     All-append (ReadsBelow count) (equation_rows es count es) (map (node_row es count) ns)
     (All-map (ReadsBelow count) (λ e. node_row es count e.node) es (every (λ e. ReadsBelow count (node_row es count e.node)) (λ e. below e.node) es))
     (All-map (ReadsBelow count) (node_row es count) ns (every (λ x. ReadsBelow count (node_row es count x)) below ns)) in
-    λ r l. All-get_or (ReadsBelow (length (table_rows es ns))) (table_rows es ns) r (Literal 0) l (subst (λ n. All (ReadsBelow n) (table_rows es ns)) (sym (length-table-rows es ns)) all)
+    λ r l. All-get_or (ReadsBelow (length (table_rows es ns))) (table_rows es ns) r (Literal 0) l (subst (λ n. AllByRecursion (ReadsBelow n) (table_rows es ns)) (sym (length-table-rows es ns)) all)
 
 pub closed-table : (es : List Equation) (ns : List Node) (rows : List Row) → rows ≡ table_rows es ns → 0 < length es → Closed rows
 closed-table es ns rows e h = subst (λ x. Closed x) (sym e) (closed-rows es ns h)

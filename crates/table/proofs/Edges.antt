@@ -1,7 +1,7 @@
 -- Which edges a table has.
 use Rattle.std.proofs.Common.{◌≡◌, ℕ, zero, suc, ◌+◌, ◌<◌, ◌≤◌, Bool, true, false, ◌⊎◌, List, [], ◌∷◌, ◌++◌, map, length, get_or, Err, MatchBool, sym, ap, ◌∙◌, subst, inl, inr, add-one, arith}
 use native.Mathlib.Decide.{ℕ_discrete}
-use Rattle.std.specs.List.{ContainsAt as Has, AllByRecursion as All}
+use Rattle.std.specs.List.{ContainsAt as Has, AllByRecursion}
 use Rattle.std.proofs.lemmas.List.{get_or-map, length-map, append_assoc}
 use Rattle.std.proofs.ByRecursion.{All-append, All-map, All-weaker, all_has_itself, all-has, has_append_left, has_append_right}
 use Rattle.reading.specs.declared.rows.Arithmetic.{Arithmetic}
@@ -32,12 +32,12 @@ has_first rows (suc n) r e h k = elim (ℕ_discrete r n) [
 pub has-edge : (rows : List Row) (r : ℕ) (e : Label × ℕ) → r < length rows → Has (edges (row_at rows r)) e → Has (table_edges rows) (edge_of r e)
 has-edge rows r e h k = has_first rows (length rows) r (edge_of r e) h (has-map (edge_of r) (edges (row_at rows r)) e k)
 
-pub all_first : (P : Edge → Type 0) (rows : List Row) (n : ℕ) → ((r : ℕ) → r < n → All (λ e. P (edge_of r e)) (edges (row_at rows r))) → All P (first_edges rows n)
+pub all_first : (P : Edge → Type 0) (rows : List Row) (n : ℕ) → ((r : ℕ) → r < n → AllByRecursion (λ e. P (edge_of r e)) (edges (row_at rows r))) → AllByRecursion P (first_edges rows n)
 all_first P rows zero f = tt
 all_first P rows (suc n) f =
     All-append P (first_edges rows n) _ (all_first P rows n (λ r h. f r (omega arith))) (All-map P (edge_of n) (edges (row_at rows n)) (f n (omega arith)))
 
-pub within_all : (n : ℕ) (r : ℕ) (es : List (Label × ℕ)) → r < n → All (λ e. e.1 < n) es → All (λ e. ((edge_of r e).from < n) × ((edge_of r e).to < n)) es
+pub within_all : (n : ℕ) (r : ℕ) (es : List (Label × ℕ)) → r < n → AllByRecursion (λ e. e.1 < n) es → AllByRecursion (λ e. ((edge_of r e).from < n) × ((edge_of r e).to < n)) es
 within_all n r [] h a = tt
 within_all n r (e ∷ es) h a = ((h, a.0), within_all n r es h a.1)
 

@@ -1,6 +1,6 @@
 -- A loop over a checked table finds each reading where it looks for it.
 use Rattle.std.proofs.Common.{◌≡◌, ℕ, ◌+◌, ◌-◌, ◌<◌, ◌≤◌, Bool, true, cond, List, length, get_or, take, sum_by, sum, sym, refl, ap, ◌∙◌, subst, inl, inr, arith}
-use Rattle.std.specs.List.{ContainsAt as Has, AllByRecursion as All}
+use Rattle.std.specs.List.{ContainsAt as Has, AllByRecursion}
 use Rattle.std.proofs.lemmas.List.{get_or-take, take-take, take_all}
 use Rattle.std.proofs.lemmas.List.Sums.{sum_by_more, sum_by-take-le}
 use Rattle.std.proofs.ByRecursion.{all-has, All-weaker, all_has_itself}
@@ -22,7 +22,7 @@ use Rattle.table.proofs.Edges.{has-edge}
 
 -- What holds along each finite edge, and along each infinite one.
 pub each-edge : (E : Label → ℕ → Type 0) (P : ℕ → ℕ → ℕ → Type 0) → ((x : ℕ) → E level x → P x 0 0) → ((x : ℕ) → E ahead x → P x 1 0)
-    → ((x : ℕ) → E back x → P x 0 1) → (row : Row) → All (λ e. E e.0 e.1) (edges row) → EachEdge P row
+    → ((x : ℕ) → E back x → P x 0 1) → (row : Row) → AllByRecursion (λ e. E e.0 e.1) (edges row) → EachEdge P row
 each-edge E P l a b (Literal n) e = tt
 each-edge E P l a b (Truth v) e = tt
 each-edge E P l a b (Channel c) e = tt
@@ -39,7 +39,7 @@ each-edge E P l a b (Negate x) e = l x e.0
 each-edge E P l a b (Compute o x y) e = (l x e.0, l y e.1.0)
 each-edge E P l a b (Relate o x y) e = (l x e.0, l y e.1.0)
 
-pub each-side : (E : Label → ℕ → Type 0) (P : ℕ → Type 0) → ((x : ℕ) → E beyond x → P x) → (row : Row) → All (λ e. E e.0 e.1) (edges row)
+pub each-side : (E : Label → ℕ → Type 0) (P : ℕ → Type 0) → ((x : ℕ) → E beyond x → P x) → (row : Row) → AllByRecursion (λ e. E e.0 e.1) (edges row)
     → EachSide P row
 each-side E P s (Literal n) e = tt
 each-side E P s (Truth v) e = tt
@@ -139,7 +139,7 @@ module _ (rows : List Row) (result : ℕ) (plan : Plan) (places : List Place) (o
   abbrev Along : ℕ → Label → ℕ → Type 0
   Along a l x = (x < length rows) × Has (table_edges rows) (edge_of a (l, x))
 
-  along : (a : ℕ) → a < length rows → All (λ e. Along a e.0 e.1) (edges (row_at rows a))
+  along : (a : ℕ) → a < length rows → AllByRecursion (λ e. Along a e.0 e.1) (edges (row_at rows a))
   along a h =
       All-weaker (Has (edges (row_at rows a))) _
       (λ e k. (all-has (λ e. e.1 < length rows) (edges (row_at rows a)) e (closed a h) k, has-edge rows a e h k)) (edges (row_at rows a))

@@ -2,7 +2,7 @@
 use Rattle.std.proofs.Common.{ℕ, ◌+◌, ◌*◌, ◌^◌, ◌<◌, ◌≤◌, List, length, get_or, sym, subst, arith}
 use mathlib.Core.Logic.{∥∥₁_elim}
 use native.Mathlib.Bridge.{le_prop}
-use Rattle.std.specs.List.{ContainsAt as Has, AllByRecursion as All}
+use Rattle.std.specs.List.{ContainsAt as Has, AllByRecursion}
 use Rattle.std.proofs.ByRecursion.{all-has, All-weaker, all_has_itself}
 use Rattle.reading.specs.declared.rows.Row.{Row}
 use Rattle.theory.specs.Rule.{row_at}
@@ -33,7 +33,7 @@ module _ (t : Schedule) where
   stage r = get_or t.plan.stage r 0
 
   abbrev Falls : ℕ → Type 0
-  Falls r = All (λ e. (e.1 < length (rows_of t)) × Down 65 height stage r e.0 e.1) (edges (row_at (rows_of t) r))
+  Falls r = AllByRecursion (λ e. (e.1 < length (rows_of t)) × Down 65 height stage r e.0 e.1) (edges (row_at (rows_of t) r))
 
   falls : Sound t → (r : ℕ) → r < length (rows_of t) → Falls r
   falls c r h =

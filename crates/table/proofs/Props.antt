@@ -6,7 +6,7 @@ use native.Mathlib.Nat.{ℕ_set}
 use Rattle.reading.specs.declared.rows.Row.{Row}
 use Rattle.reading.specs.declared.rows.Row.TheVariants.{Literal, Truth, Channel, Same, First, Next, Fby, Asa, If, And, Or, Not, Negate, Compute, Relate}
 use Rattle.theory.specs.Rule.{row_at}
-use Rattle.std.specs.List.{AllByRecursion as All}
+use Rattle.std.specs.List.{AllByRecursion}
 use Rattle.theory.specs.Potential.{Label, level, ahead, back, beyond, Down}
 use Rattle.table.specs.Layout.{Layout, Planned, Edge, Side, EachEdge, EachSide, position_at}
 
@@ -87,6 +87,6 @@ down-prop m height stage a ahead x p q = λ i. (le_prop p.0 q.0 i, le_prop p.1 q
 down-prop m height stage a back x p q = λ i. (le_prop p.0 q.0 i, le_prop p.1 q.1 i)
 down-prop m height stage a beyond x p q = le_prop p q
 
-pub all_prop : {X : Type 0} (P : X → Type 0) → ((x : X) → IsProp (P x)) → (xs : List X) → IsProp (All P xs)
+pub all_prop : {X : Type 0} (P : X → Type 0) → ((x : X) → IsProp (P x)) → (xs : List X) → IsProp (AllByRecursion P xs)
 all_prop P h [] p q = λ i. tt
 all_prop P h (x ∷ xs) p q = λ i. (h x p.0 q.0 i, all_prop P h xs p.1 q.1 i)

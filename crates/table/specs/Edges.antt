@@ -1,6 +1,6 @@
 -- The edges of a table of rows: from each row to each row that it reads.
 use Rattle.std.specs.Prelude.{ℕ, zero, suc, ◌<◌, List, [], ◌++◌, map, length, take}
-use Rattle.std.specs.List.{AllByRecursion as All}
+use Rattle.std.specs.List.{AllByRecursion}
 use Rattle.reading.specs.declared.rows.Row.{Row}
 use Rattle.theory.specs.Rule.{row_at}
 use Rattle.theory.specs.Potential.{edges, level, ahead, back, beyond}
@@ -34,7 +34,7 @@ table_edges rows = first_edges rows (length rows)
 
 -- Every row that is read stands in the table.
 abbrev pub Closed : List Row → Type 0
-Closed rows = (r : ℕ) → r < length rows → All (λ e. e.1 < length rows) (edges (row_at rows r))
+Closed rows = (r : ℕ) → r < length rows → AllByRecursion (λ e. e.1 < length rows) (edges (row_at rows r))
 
 -- The edges that a list holds.
 abbrev pub listed : EdgeList → List Edge

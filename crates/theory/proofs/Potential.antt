@@ -1,6 +1,6 @@
 -- Heights and stages rank the places: the stage first, and then the height with the tick.
 use Rattle.std.proofs.Common.{◌≡◌, ℕ, zero, suc, ◌+◌, ◌*◌, ◌<◌, ◌≤◌, List, length, refl, mul-le-mul_left, mul-suc, add-one, arith}
-use Rattle.std.specs.List.{ContainsAt as Has, AllByRecursion as All}
+use Rattle.std.specs.List.{ContainsAt as Has, AllByRecursion}
 use Rattle.std.proofs.ByRecursion.{all_has_itself}
 use Rattle.reading.specs.declared.rows.Row.{Row}
 use Rattle.reading.specs.declared.rows.Row.TheVariants.{Literal, Truth, Channel, Same, First, Next, Fby, Asa, If, And, Or, Not, Negate, Compute, Relate}
@@ -15,11 +15,11 @@ module _ (H t : ℕ) (E : Label → ℕ → Type 0) (P : ℕ → ℕ → Type 0)
   now : (x : ℕ) → E level x → P x t
   now x e = at_level x t (omega arith) e
 
-  followed : (x y s : ℕ) → t ≡ s → All (λ e. E e.0 e.1) (edges (Fby x y)) → EachRead H P (Fby x y) s
+  followed : (x y s : ℕ) → t ≡ s → AllByRecursion (λ e. E e.0 e.1) (edges (Fby x y)) → EachRead H P (Fby x y) s
   followed x y zero h e = at_level x 0 (omega arith) e.0
   followed x y (suc s) h e = at_back y s h e.1.0
 
-  pub reads : (row : Row) → All (λ e. E e.0 e.1) (edges row) → EachRead H P row t
+  pub reads : (row : Row) → AllByRecursion (λ e. E e.0 e.1) (edges row) → EachRead H P row t
   reads (Literal n) e = tt
   reads (Truth b) e = tt
   reads (Channel c) e = tt
@@ -50,7 +50,7 @@ module _ (table : List Row) (p : Potential table) (H : ℕ) where
   abbrev Lower : ℕ → ℕ → ℕ → ℕ → Type 0
   Lower a t x s = (x < length table) × (rank x s < rank a t)
 
-  pub falls : (a t : ℕ) (row : Row) → All (λ e. Edge a e.0 e.1) (edges row) → EachRead H (Lower a t) row t
+  pub falls : (a t : ℕ) (row : Row) → AllByRecursion (λ e. Edge a e.0 e.1) (edges row) → EachRead H (Lower a t) row t
   unfolding rank span
   falls a t =
       reads H t (Edge a) (Lower a t)

@@ -1,6 +1,6 @@
 -- Heights and stages of rows, which rank the places of a table.
 use Rattle.std.specs.Prelude.{◌≡◌, ℕ, ◌+◌, ◌*◌, ◌<◌, ◌≤◌, List, [], ◌∷◌, length}
-use Rattle.std.specs.List.{ContainsAt as Has, AllByRecursion as All}
+use Rattle.std.specs.List.{ContainsAt as Has, AllByRecursion}
 use Rattle.reading.specs.declared.rows.Row.{Row}
 use Rattle.reading.specs.declared.rows.Row.TheVariants.{Literal, Truth, Channel, Same, First, Next, Fby, Asa, If, And, Or, Not, Negate, Compute, Relate}
 use Rattle.theory.specs.Rule.{row_at}
@@ -42,7 +42,7 @@ pub record Potential (table : List Row) : Type 0 where
   pub stage : ℕ → ℕ
   pub top : ℕ
   pub under : (r : ℕ) → r < length table → height r < top
-  pub down : (r : ℕ) → r < length table → All (λ e. (e.1 < length table) × Down tick height stage r e.0 e.1) (edges (row_at table r))
+  pub down : (r : ℕ) → r < length table → AllByRecursion (λ e. (e.1 < length table) × Down tick height stage r e.0 e.1) (edges (row_at table r))
 
 abbrev pub PotentialRanks : Type 0
 PotentialRanks = (table : List Row) → Potential table → (H : ℕ) → Ranked table H
@@ -57,7 +57,7 @@ Carried lead a beyond x = Unit
 -- A place before its row's end, the horizon and the lead, is read from such places alone.
 abbrev pub LeadsBound : Type 0
 LeadsBound =
-    (lead : ℕ → ℕ) (row : Row) (r H t : ℕ) → All (λ e. Carried lead r e.0 e.1) (edges row) →
+    (lead : ℕ → ℕ) (row : Row) (r H t : ℕ) → AllByRecursion (λ e. Carried lead r e.0 e.1) (edges row) →
     0 < H → t < H + lead r → EachRead H (λ x s. s < H + lead x) row t
 
 -- An edge from row a to row x that leaves no slack: x leads a by just the label.

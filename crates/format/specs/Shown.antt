@@ -1,12 +1,10 @@
 -- What is printed of values, faults and readings, and the lines of a list.
-use Rattle.std.specs.Prelude.{ℕ, Bool, cond, List, [], ◌∷◌, ◌++◌, codes, decimal}
+use Rattle.std.specs.Prelude.{ℕ, Bool, cond, List, [], ◌∷◌, ◌++◌, codes, decimal, Ok, Err}
 use Rattle.std.specs.Fmt.{signed_decimal}
 use Rattle.text.specs.Fields.{fields_text}
 use Rattle.text.specs.Hexadecimal.{bits_text}
-use Rattle.reading.specs.Faults.{number_of}
+use Rattle.reading.specs.Faults.{Reading, number_of}
 use Rattle.reading.specs.declared.faults.Fault.{Fault}
-use Rattle.reading.specs.declared.faults.Reading.{Reading}
-use Rattle.reading.specs.declared.faults.Reading.TheVariants as Read
 use Rattle.kind.specs.declared.whole.Whole.{Whole}
 use Rattle.kind.specs.declared.whole.Whole.TheVariants as Wholes
 use Rattle.kind.specs.declared.rate.Rate.{Rate}
@@ -39,8 +37,8 @@ fault_text f = fields_text (fault_fields f)
 
 -- A reading, by what is printed of a value.
 abbrev pub reading_text : {V : Type 0} → (V → List ℕ) → Reading V → List ℕ
-reading_text text (Read.Value v) = text v
-reading_text text (Read.Fault f) = fault_text f
+reading_text text (Ok v) = text v
+reading_text text (Err f) = fault_text f
 
 -- The line of a tick, as `2 5`, by what is printed of a value.
 unfoldable pub line_text : {V : Type 0} → (V → List ℕ) → Line V → List ℕ

@@ -70,8 +70,8 @@ impl<V: Shown> Shown for Reading<V> {
 
     fn push_to(&self, out: &mut Text) {
         match self {
-            Reading::Value(v) => v.push_to(out),
-            Reading::Fault(f) => f.push_to(out),
+            Ok(v) => v.push_to(out),
+            Err(f) => f.push_to(out),
         }
     }
 }

@@ -65,7 +65,7 @@ fn push_list<K: Recorded + Shown + Clone>(
 ) -> Result<(), AllocError>
     ensures { OnOk result (Appended (Runs K.Kind.meaning K.Shown.text K.Recorded.code table.now.schedule recording.now) out.old out.new) }
 {
-    let mut cells = vec![in heap; Reading::<K>::Fault(UNREAD); table.schedule.size]?;
+    let mut cells = vec![in heap; Reading::<K>::Err(UNREAD); table.schedule.size]?;
     let tried = push_recorded(table, recording, &mut cells, out);
     push_refusal(tried, out);
     Ok(())

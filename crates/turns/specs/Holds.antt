@@ -1,6 +1,6 @@
 -- What the cells hold of a sheet.
 use Rattle.std.specs.Prelude.{◌≡◌, ℕ, ◌+◌, ◌%◌, ◌<◌, ◌≤◌, true, List, length, slice_index_or}
-use Rattle.reading.specs.declared.faults.Reading.{Reading}
+use Rattle.reading.specs.Faults.{Reading}
 use Rattle.theory.specs.Rule.{Sheet, row_at}
 use Rattle.table.specs.declared.place.Place.{Place}
 use Rattle.table.specs.Layout.{Layout, place_at, is_asa}

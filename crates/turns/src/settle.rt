@@ -21,8 +21,8 @@ fn taken<V: Kind>(x: Reading<V>, y: Reading<V>, r: u8, t: u32) -> Reading<V>
     ensures { result ≡ found_at V.Kind.meaning r t x y }
 {
     match y {
-        Reading::Fault(f) => Reading::Fault(f),
-        Reading::Value(v) => match v.told() {
+        Err(f) => Err(f),
+        Ok(v) => match v.told() {
             Some(true) => x,
             _ => fault(FaultNumber::WrongKind, r, t),
         },

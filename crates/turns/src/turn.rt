@@ -8,7 +8,7 @@ ghost use Rattle.turns.specs.Holds.{At, slot, Holds, Settled, Kept};
 ghost use Rattle.turns.specs.Ticks.{Ticked, Tried};
 ghost use Rattle.turns.specs.Reads.{Has, Left, Right, Third, Within, Ready};
 
-use crate::decision::{decide, heard};
+use crate::decision::{answered, decide};
 use kind::Kind;
 use reading::{Reading, Row};
 use source::Source;
@@ -43,7 +43,7 @@ fn left<V: Kind, S: Source<V>>(
     ensures { Left (seen view.now) (S.Source.meaning source.now).says cells.now row r t result }
 {
     match row {
-        Row::Channel(c) => heard(source.read(c, t), r, t),
+        Row::Channel(c) => answered(source.read(c, t), r, t),
         Row::Literal(_) | Row::Truth(_) => fetch(view, cells, r, 0),
         Row::First(_) if t > 0 => fetch(view, cells, r, t - 1),
         Row::Fby(_, y) if t > 0 => fetch(view, cells, y, t - 1),

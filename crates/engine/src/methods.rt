@@ -134,8 +134,9 @@ impl<'t, 'c, V: Kind> Run<'t, 'c, V> {
     }
 
     /// The reading of a row at a tick, where its window has it.
-    pub fn look(&self, row: u8, tick: u32) -> Result<Option<Reading<V>>, Refusal>
-        ensures { (says : Says V) → Lawful V.Kind.meaning says self.now self.now (Look row tick) (answered Seen result) }
+    pub fn look(&mut self, row: u8, tick: u32) -> Result<Option<Reading<V>>, Refusal>
+        ensures same { self.new ≡ self.old }
+        ensures law { (says : Says V) → Lawful V.Kind.meaning says self.old self.new (Look row tick) (answered Seen result) }
     {
         let progress = self.progress()?;
         let view = self.table.view();

@@ -16,10 +16,9 @@ abbrev pub Answers : {V F : Type 0} → (F → FaultNumber → Type 0) → Resul
 Answers numbers (Ok v) r t z = z ≡ Ok v
 Answers numbers (Err f) r t z = (n : FaultNumber) × numbers f n × (z ≡ born n r t)
 
--- The truth value that row r reads at tick t: a fault is passed on, and a number is a fault of kind.
-abbrev pub told : {V : Type 0} → Meaning V → Reading V → ℕ → ℕ → Reading Bool
-told k (Ok v) r t = ok_or (k.told v) (record { number = WrongKind; row = r; tick = t })
-told k (Err f) r t = Err f
+-- The truth value that a value is, in row r at tick t; a number is a fault of kind.
+abbrev pub told : {V : Type 0} → Meaning V → V → ℕ → ℕ → Reading Bool
+told k v r t = ok_or (k.told v) (record { number = WrongKind; row = r; tick = t })
 
 -- What row r reads at tick t from the readings a, b and c of its operands; a row that only passes one on has it as a.
 abbrev pub decided : {V : Type 0} → Meaning V → Row → ℕ → ℕ → Reading V → Reading V → Reading V → Reading V

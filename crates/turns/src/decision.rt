@@ -1,7 +1,7 @@
 //! What a row reads, from the readings of its operands.
 
-ghost use Rattle.std.specs.Prelude.{◌≡◌, not};
-ghost use Rattle.theory.specs.Rule.{is, born, connected};
+ghost use Rattle.std.specs.Prelude.{◌≡◌};
+ghost use Rattle.theory.specs.Rule.{is, born};
 ghost use Rattle.turns.specs.Reads.{Answers, decided, told};
 
 use kind::Kind;
@@ -38,28 +38,12 @@ pub(crate) fn answered<V, F: Into<FaultNumber>>(
     }
 }
 
-/// The truth value that is read, in a row at a tick.
-fn truth<V: Kind>(reading: &Reading<V>, row: u8, tick: u32) -> Result<bool, Fault>
-    ensures { result ≡ told V.Kind.meaning reading.now row tick }
+/// The truth value that a value is, in a row at a tick.
+fn truth<V: Kind>(value: V, row: u8, tick: u32) -> Result<bool, Fault>
+    ensures { result ≡ told V.Kind.meaning value row tick }
 {
     let number = FaultNumber::WrongKind;
-    (*reading)?.told().ok_or(Fault { number, row, tick })
-}
-
-/// `and` with false for `b`, and `or` with true, in row `r` at tick `t`.
-fn connect<V: Kind>(b: bool, x: &Reading<V>, y: &Reading<V>, r: u8, t: u32) -> Reading<V>
-    ensures { result ≡ connected V.Kind.meaning b r t x.now y.now }
-{
-    if is(b, x) || is(b, y) {
-        return Ok(V::truth(b));
-    }
-    (*x)?;
-    (*y)?;
-    if is(!b, x) && is(!b, y) {
-        Ok(V::truth(!b))
-    } else {
-        fault(FaultNumber::WrongKind, r, t)
-    }
+    value.told().ok_or(Fault { number, row, tick })
 }
 
 /// What row `r` reads at tick `t` from the readings of its operands.
@@ -73,17 +57,22 @@ pub fn decide<V: Kind>(
 ) -> Reading<V>
     ensures { result ≡ decided V.Kind.meaning row r t a.now b.now c.now }
 {
-    match row {
-        Row::Literal(n) => Ok(V::literal(n)),
-        Row::Truth(w) => Ok(V::truth(w)),
-        Row::Channel(_) | Row::Same(_) | Row::First(_) | Row::Next(_) => *a,
-        Row::Fby(_, _) | Row::Asa(_, _) => *a,
-        Row::If(_, _, _) => if truth(a, r, t)? { *b } else { *c },
-        Row::And(_, _) => connect(false, a, b, r, t),
-        Row::Or(_, _) => connect(true, a, b, r, t),
-        Row::Not(_) => Ok(V::truth(!truth(a, r, t)?)),
-        Row::Negate(_) => answered((*a)?.negate(), r, t),
-        Row::Compute(op, _, _) => answered(V::compute(op, (*a)?, (*b)?), r, t),
-        Row::Relate(op, _, _) => answered(V::relate(op, (*a)?, (*b)?), r, t),
+    match (row, a, b) {
+        (Row::Literal(n), _, _) => Ok(V::literal(n)),
+        (Row::Truth(w), _, _) => Ok(V::truth(w)),
+        (Row::Channel(_) | Row::Same(_) | Row::First(_) | Row::Next(_), _, _) => *a,
+        (Row::Fby(_, _) | Row::Asa(_, _), _, _) => *a,
+        (Row::And(_, _), _, _) if is(false, a) || is(false, b) => Ok(V::truth(false)),
+        (Row::Or(_, _), _, _) if is(true, a) || is(true, b) => Ok(V::truth(true)),
+        (_, Err(f), _) => Err(*f),
+        (Row::Not(_), Ok(v), _) => Ok(V::truth(!truth(*v, r, t)?)),
+        (Row::If(_, _, _), Ok(v), _) => if truth(*v, r, t)? { *b } else { *c },
+        (Row::Negate(_), Ok(v), _) => answered((*v).negate(), r, t),
+        (_, _, Err(f)) => Err(*f),
+        (Row::And(_, _), _, _) if is(true, a) && is(true, b) => Ok(V::truth(true)),
+        (Row::Or(_, _), _, _) if is(false, a) && is(false, b) => Ok(V::truth(false)),
+        (Row::And(_, _) | Row::Or(_, _), _, _) => fault(FaultNumber::WrongKind, r, t),
+        (Row::Compute(op, _, _), Ok(v), Ok(w)) => answered(V::compute(op, *v, *w), r, t),
+        (Row::Relate(op, _, _), Ok(v), Ok(w)) => answered(V::relate(op, *v, *w), r, t),
     }
 }

@@ -21,8 +21,8 @@ overflow_add-due g c =
     let d = c.if-tick-progress.false in
     search rules
 
-pub returns-then-progress-eq0 : goal.returns-then-progress-eq0
-returns-then-progress-eq0 g c says past told =
+pub returns-then-progress-eq0-clause-law : goal.returns-then-progress-eq0-clause-law
+returns-then-progress-eq0-clause-law g c says past told =
     let run = c.args.self.now in
     let l = laid run in
     let k = g.V.Kind.meaning in
@@ -66,8 +66,8 @@ cell-requires g c =
     let a = enough c.args.self.now _ (in-progress _ _ _ c.in_ok-progress.ensures) in
     omega arith
 
-pub returns : goal.returns
-returns g c says past told =
+pub returns-clause-law : goal.returns-clause-law
+returns-clause-law g c says past told =
     let run = c.args.self.now in
     let l = laid run in
     let k = g.V.Kind.meaning in

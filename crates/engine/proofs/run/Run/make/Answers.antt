@@ -10,4 +10,4 @@ returns-in_err-tick-in-Step-clause-law g c =
 pub returns-in_err-look-in-Look-clause-law : goal.returns-in_err-look-in-Look-clause-law
 returns-in_err-look-in-Look-clause-law g c =
     let says = (g.S.Source.meaning c.args.source.now).says in
-    lawful-by g.V.Kind.meaning says c.args.self.now c.args.self.now c.in-Look.is (search rules) (c.in_err-look-in-Look.ensures says)
+    lawful-by g.V.Kind.meaning says c.args.self.now c.look.new.self c.in-Look.is (search rules) (c.in_err-look-in-Look.ensures.law says)

@@ -3,7 +3,6 @@ use Rattle.table.proofs.Potential.{sound-plans}
 use Rattle.engine.specs.Tells.{laid}
 use Rattle.table.specs.Layout.{place_at}
 use Rattle.table.specs.Views.{seen}
-use Rattle.table.proofs.Props.{opened}
 use Rattle.turns.specs.Holds.{At, slot}
 use Rattle.turns.proofs.Slots.{slot-fits}
 use Rattle.turns.proofs.Agree.{one_at}
@@ -18,7 +17,7 @@ use Rattle.engine.proofs.run.Run.look.Goals.{then-made-eq0-via-then-made-eq0, th
 pub bounds-view-row : goal.bounds-view-row
 bounds-view-row g c =
     let view = c.view-view.result in
-    let p = opened (seen view) view.planned in
+    let p = view.planned in
     let a = p.places in
     let b = c.if-row-view.false in
     omega arith
@@ -26,7 +25,7 @@ bounds-view-row g c =
 pub overflow_add-turns : goal.overflow_add-turns
 overflow_add-turns g c =
     let view = c.view-view.result in
-    let a = (opened (seen view) view.planned).short in
+    let a = view.planned.short in
     let b = c.args.self.now.progress.within in
     let d = c.args.self.now.progress.low in
     search rules
@@ -34,7 +33,7 @@ overflow_add-turns g c =
 pub overflow_add-due : goal.overflow_add-due
 overflow_add-due g c =
     let view = c.view-view.result in
-    let p = opened (seen view) view.planned in
+    let p = view.planned in
     let a = p.short in
     let b = p.delayed c.args.row c.if-row-view.false in
     let far : c.in-Some.horizon ≤ 100000 = subst (λ o. limit o ≤ 100000) c.in-Some.is c.args.self.now.progress.low in
@@ -44,7 +43,7 @@ overflow_add-due g c =
 pub overflow_add-place : goal.overflow_add-place
 overflow_add-place g c =
     let view = c.view-view.result in
-    let p = opened (seen view) view.planned in
+    let p = view.planned in
     let f = slot-fits (seen view) p c.args.row c.if-row-view.false c.args.tick in
     let d = p.deep c.args.row c.if-row-view.false in
     let e = c.slot.ensures.0 d in
@@ -89,7 +88,7 @@ returns-then-made-eq0 g c =
 pub cell-requires : goal.cell-requires
 cell-requires g c =
     let view = c.view-view.result in
-    let p = opened (seen view) view.planned in
+    let p = view.planned in
     let f = slot-fits (seen view) p c.args.row c.if-row-view.false c.args.tick in
     let d = p.deep c.args.row c.if-row-view.false in
     let e = c.slot.ensures.0 d in
@@ -112,7 +111,7 @@ returns g c =
     let v = c.cell.result in
     let cells = run.cells.now in
     let some : 0 < n = let a = c.if-made-eq0.false in omega arith in
-    let deep = (opened (seen view) view.planned).deep r c.if-row-view.false in
+    let deep = view.planned.deep r c.if-row-view.false in
     let is : r < length l.rows = subst (λ x. r < length x.rows) seen_as c.if-row-view.false in
     let made : t + (place_at l r).delay < n + l.lag = subst (λ x. t + (place_at x r).delay < n + x.lag) seen_as c.if-due-turns.false in
     let near : n + view.lag ≤ t + (place_at (seen view) r).delay + (place_at (seen view) r).depth = let a = c.if-turns-due.false in let b = c.if-due-turns.false in omega arith in

@@ -128,9 +128,9 @@ impl<'t, 'c, V: Kind> Run<'t, 'c, V> {
             return Err(Refusal::Cells);
         }
         let stage = settled + 1;
-        if !settle_stage(&view, source, self.cells, stage, horizon) {
+        let Some(()) = settle_stage(&view, source, self.cells, stage, horizon) else {
             unreachable()
-        }
+        };
         self.progress = Progress {
             horizon: Some(horizon),
             settled: stage,

@@ -4,7 +4,7 @@ use Rattle.engine.specs.Tells.{laid}
 use Rattle.table.specs.Layout.{place_at}
 use Rattle.table.specs.Views.{seen}
 use Rattle.turns.specs.Holds.{At, slot}
-use Rattle.turns.proofs.Slots.{slot-fits}
+use Rattle.turns.proofs.Slots.{slot_fits}
 use Rattle.turns.proofs.Agree.{one_at}
 use Rattle.engine.specs.declared.calls.Call.TheVariants.{Look}
 use Rattle.engine.specs.declared.calls.Answer.TheVariants.{Seen}
@@ -44,7 +44,7 @@ pub overflow_add-place : goal.overflow_add-place
 overflow_add-place g c =
     let view = c.view-view.result in
     let p = view.planned in
-    let f = slot-fits (seen view) p c.args.row c.if-row-view.false c.args.tick in
+    let f = slot_fits (seen view) p c.args.row c.if-row-view.false c.args.tick in
     let d = p.deep c.args.row c.if-row-view.false in
     let e = c.slot.ensures.0 d in
     let a = c.if-self-view.false in
@@ -89,7 +89,7 @@ pub cell-requires : goal.cell-requires
 cell-requires g c =
     let view = c.view-view.result in
     let p = view.planned in
-    let f = slot-fits (seen view) p c.args.row c.if-row-view.false c.args.tick in
+    let f = slot_fits (seen view) p c.args.row c.if-row-view.false c.args.tick in
     let d = p.deep c.args.row c.if-row-view.false in
     let e = c.slot.ensures.0 d in
     let a = c.if-self-view.false in

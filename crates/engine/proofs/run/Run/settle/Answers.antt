@@ -21,7 +21,7 @@ returns g c =
     let s = run.progress.settled in
     let stages : c.view-view.result.stages ≡ l.stages = ap (λ x. x.stages) seen_as in
     let more : s < l.stages = let a = c.if-settled-stages.false in omega arith in
-    let settles : Settles l k says old new (s + 1) H = subst (λ x. Settles x k says old new (s + 1) H) seen_as c.if-not-settle_stage.ensures in
+    let settles : Settles l k says old new (s + 1) H = subst (λ x. Settles x k says old new (s + 1) H) seen_as c.in-Some-settle_stage.ensures in
     let kept = c.settle_stage.auto.cells in
     record {
       stays = record { table = refl; room = kept; beyond = settles.beyond };

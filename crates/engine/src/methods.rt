@@ -112,15 +112,15 @@ impl<'t, 'c, V: Kind> Run<'t, 'c, V> {
             return Ok(0);
         }
         progress.settled += 1;
-        if !settle_stage(
+        let Some(()) = settle_stage(
             &view,
             source,
             self.cells,
             progress.settled,
             progress.horizon,
-        ) {
+        ) else {
             unreachable()
-        }
+        };
         self.progress = Some(progress);
         Ok(view.stages - progress.settled)
     }

@@ -9,10 +9,10 @@ use Rattle.theory.specs.Rule.{row_at}
 use Rattle.theory.specs.Potential.{Label, level, ahead, back, beyond, edges, Down, Potential}
 use Rattle.theory.proofs.Determined.{determines}
 use Rattle.table.specs.declared.schedule.Schedule.{Schedule}
-use Rattle.table.specs.Layout.{Planned}
+use Rattle.table.specs.Layout.{planned_prop, Planned}
 use Rattle.table.specs.Tables.{Checked, Sound, rows_of, layout}
 use Rattle.table.proofs.Loops.{table-plans}
-use Rattle.table.proofs.Props.{planned-prop, down-prop, all_prop}
+use Rattle.table.proofs.Props.{down-prop, all_prop}
 use Rattle.graph.specs.Labels.{plus, minus, infinite}
 use Rattle.table.specs.Edges.{labelled, edge_of}
 use Rattle.table.specs.Laws.{DeterminedBy, DeterminedRows}
@@ -66,7 +66,7 @@ module _ (t : Schedule) where
   sound-few s = ∥∥₁_elim s le_prop (λ c. omega (arith, c.count_is, c.few))
 
   pub sound-plans : ∥ Sound t ∥₁ → Planned (layout t)
-  sound-plans s = ∥∥₁_elim s (planned-prop (layout t)) (table-plans (rows_of t) t.result t)
+  sound-plans s = ∥∥₁_elim s (planned_prop (layout t)) (table-plans (rows_of t) t.result t)
 
   pub sound-determines : (V : Type 0) → ∥ Sound t ∥₁ → DeterminedBy V t
   sound-determines V s = determines V (rows_of t) (potential s)

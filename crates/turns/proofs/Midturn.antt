@@ -83,6 +83,12 @@ module _ {V : Type 0} (l : Layout) (p : Planned l) (cells : List (Reading V)) (�
             (λ e. let i = slot-inside l p r is t in let o = p.outside q iq q-asa in omega arith) ∙ m.settled q iq q-asa lq u d;
       }
 
+      -- The reading that the row then makes is the sheet's, so its write makes the row.
+      pub makes : (v : Reading V) (new : List (Reading V)) → (Ready l cells σ (row_at l.rows r) r t → v ≡ σ r t) → new ≡ set cells (slot (place_at l r) t) v →
+          Midst l (position_at l) new σ s j (k + 1)
+      makes v new reads written =
+          subst (λ x. Midst l (position_at l) x σ s j (k + 1)) (sym (written ∙ ap (set cells (slot (place_at l r) t)) (reads ready))) made_one
+
   -- A row of a later stage, or whose first turn is yet to come, is passed over.
   pub passed-one : (r : ℕ) → r < length l.rows → position_at l r ≡ k → ((place_at l r).stage ≤ s → j < (place_at l r).delay) →
       Midst l (position_at l) cells σ s j (k + 1)

@@ -1,5 +1,5 @@
 -- The operands of a row in its turn, and the reading that they decide.
-use Rattle.std.specs.Prelude.{◌≡◌, ℕ, ◌+◌, ◌-◌, ◌<◌, true, false, Bool, List, length, Result, Ok, Err, ok_or}
+use Rattle.std.specs.Prelude.{◌≡◌, ℕ, ◌+◌, ◌-◌, ◌<◌, true, false, Bool, List, Result, Ok, Err, ok_or}
 use Rattle.reading.specs.Faults.{Reading, of_kind, of_source}
 use Rattle.reading.specs.declared.faults.FaultNumber.{FaultNumber}
 use Rattle.reading.specs.declared.faults.FaultNumber.TheVariants.{WrongKind}
@@ -96,24 +96,6 @@ Third l cells (Negate x) t v = Unit
 Third l cells (Compute o x y) t v = Unit
 Third l cells (Relate o x y) t v = Unit
 
--- P holds of each row that a row reads.
-abbrev pub EachRow : (ℕ → Type 0) → Row → Type 0
-EachRow P (Literal n) = Unit
-EachRow P (Truth b) = Unit
-EachRow P (Channel c) = Unit
-EachRow P (Same x) = P x
-EachRow P (First x) = P x
-EachRow P (Next x) = P x
-EachRow P (Fby x y) = P x × P y
-EachRow P (Asa x y) = Unit
-EachRow P (If c x y) = P c × P x × P y
-EachRow P (And x y) = P x × P y
-EachRow P (Or x y) = P x × P y
-EachRow P (Not x) = P x
-EachRow P (Negate x) = P x
-EachRow P (Compute o x y) = P x × P y
-EachRow P (Relate o x y) = P x × P y
-
 -- The cells hold what row r reads at tick t, as the sheet has it.
 -- A later tick of `first` reads the row's own reading before it, and an `asa` row its own cell.
 abbrev pub Ready : {V : Type 0} → Layout → List (Reading V) → Sheet V → Row → ℕ → ℕ → Type 0
@@ -132,7 +114,3 @@ Ready l cells σ (Not x) r t = Has l cells x t (σ x t)
 Ready l cells σ (Negate x) r t = Has l cells x t (σ x t)
 Ready l cells σ (Compute o x y) r t = Has l cells x t (σ x t) × Has l cells y t (σ y t)
 Ready l cells σ (Relate o x y) r t = Has l cells x t (σ x t) × Has l cells y t (σ y t)
-
--- Each row that a row reads stands in the table.
-abbrev pub Within : List Row → Row → Type 0
-Within rows row = EachRow (λ x. x < length rows) row

@@ -3,9 +3,8 @@ use Rattle.table.proofs.Potential.{sound-plans}
 use Rattle.engine.specs.Tells.{laid}
 use Rattle.table.specs.Layout.{place_at}
 use Rattle.table.specs.Views.{seen}
-use Rattle.table.proofs.Props.{opened}
 use Rattle.turns.specs.Holds.{At, slot}
-use Rattle.turns.proofs.Slots.{slot-fits}
+use Rattle.turns.proofs.Slots.{slot_fits}
 use Rattle.turns.proofs.Agree.{one_at}
 use Rattle.engine.proofs.Lawful.{goes, in-progress, enough, look-right, absent-right, looked-tells}
 use Rattle.engine.proofs.run.Run.look.Goals as goal
@@ -14,7 +13,7 @@ use Rattle.engine.proofs.run.Run.look.Goals.{then-progress-eq0-via-then-progress
 pub overflow_add-due : goal.overflow_add-due
 overflow_add-due g c =
     let view = c.view-view.result in
-    let p = opened (seen view) view.planned in
+    let p = view.planned in
     let a = p.short in
     let b = p.delayed c.args.row c.if-row-view.false in
     let far = c.in_ok-progress.progress.low in
@@ -48,8 +47,8 @@ returns-then-progress-eq0-clause-law g c says past told =
 pub overflow_add-place : goal.overflow_add-place
 overflow_add-place g c =
     let view = c.view-view.result in
-    let p = opened (seen view) view.planned in
-    let f = slot-fits (seen view) p c.args.row c.if-row-view.false c.args.tick in
+    let p = view.planned in
+    let f = slot_fits (seen view) p c.args.row c.if-row-view.false c.args.tick in
     let d = p.deep c.args.row c.if-row-view.false in
     let e = c.slot.ensures.0 d in
     let a = enough c.args.self.now _ (in-progress _ _ _ c.in_ok-progress.ensures) in
@@ -58,8 +57,8 @@ overflow_add-place g c =
 pub cell-requires : goal.cell-requires
 cell-requires g c =
     let view = c.view-view.result in
-    let p = opened (seen view) view.planned in
-    let f = slot-fits (seen view) p c.args.row c.if-row-view.false c.args.tick in
+    let p = view.planned in
+    let f = slot_fits (seen view) p c.args.row c.if-row-view.false c.args.tick in
     let d = p.deep c.args.row c.if-row-view.false in
     let e = c.slot.ensures.0 d in
     let size = ap (λ x. x.size) c.view-view.ensures in
@@ -81,7 +80,7 @@ returns-clause-law g c says past told =
     let n = p.made in
     let cells = run.cells.now in
     let some : 0 < n = let a = c.if-progress-eq0.false in omega arith in
-    let deep = (opened (seen view) view.planned).deep r c.if-row-view.false in
+    let deep = view.planned.deep r c.if-row-view.false in
     let is : r < length l.rows = subst (λ x. r < length x.rows) seen_as c.if-row-view.false in
     let made : t + (place_at l r).delay < n + l.lag = subst (λ x. t + (place_at x r).delay < n + x.lag) seen_as c.if-due-turns.false in
     let near : n + view.lag ≤ t + (place_at (seen view) r).delay + (place_at (seen view) r).depth = let a = c.if-turns-due.false in let b = c.if-due-turns.false in omega arith in

@@ -19,7 +19,7 @@ returns-clause-law g c past told =
     let s = p.settled in
     let stages : c.view-view.result.stages ≡ l.stages = ap (λ x. x.stages) seen_as in
     let more : s < l.stages = let a = c.if-progress-view.false in omega arith in
-    let settles : Settles l k says old new (s + 1) p.horizon = subst (λ x. Settles x k says old new (s + 1) p.horizon) seen_as c.if-not-settle_stage.ensures in (
+    let settles : Settles l k says old new (s + 1) p.horizon = subst (λ x. Settles x k says old new (s + 1) p.horizon) seen_as c.in-Some.ensures in (
       settle-right k says l old p past on (length old) (c.view-view.result.stages - (s + 1)) (omega arith),
       record {
         horizon = on.horizon;

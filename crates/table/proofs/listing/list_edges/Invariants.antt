@@ -1,6 +1,7 @@
 use Rattle.std.proofs.Common.{◌≡◌, ◌*◌, ◌≤◌}
-use Rattle.table.specs.Edges.{listed, first_edges}
+use Rattle.arrayvec.specs.ArrayVec.{array_vec_len}
+use Rattle.table.specs.Edges.{first_edges}
 use Rattle.table.proofs.listing.list_edges.Given as goal
 
-abbrev pub invariant-loop-i : goal.invariant-loop-i
-invariant-loop-i l = (listed l.list ≡ first_edges l.rows l.i) × (l.list.count ≤ 3 * l.i)
+abbrev pub invariant-loop-from : goal.invariant-loop-from
+invariant-loop-from l = (l.edges.items ≡ first_edges l.rows l.from) × (array_vec_len l.edges ≤ 3 * l.from)

@@ -7,23 +7,13 @@ ghost use Rattle.table.specs.Tables.{Greatest, Placed, Checked};
 ghost use Rattle.table.specs.Outcomes.{JudgedRows};
 
 use crate::cells::{count_asas, count_window_cells, is_asa};
-use crate::listing::list_edges;
 use crate::orders::{find_positions, order_rows};
 use crate::place::Place;
+use crate::rows::{ROWS, TableRows};
 use crate::schedule::Schedule;
 use crate::table::Table;
 use graph::{Defect, Plan, analyse, join_rows};
 use reading::Row;
-
-/// The rows, in an array with room for as many as a table may have.
-fn store_rows(rows: &[Row]) -> [Row; 64]
-    requires { length rows.now ≤ 64 }
-    ensures { take (length rows.now) result ≡ rows.now }
-{
-    let mut stored = [Row::Truth(false); 64];
-    stored[..rows.len()].copy_from_slice(rows);
-    stored
-}
 
 /// The greatest of some numbers.
 fn greatest(numbers: &[u32]) -> u32
@@ -33,69 +23,75 @@ fn greatest(numbers: &[u32]) -> u32
     numbers.iter().copied().max().unwrap()
 }
 
-/// The place of each row, where the windows take the first cells.
-fn place_rows(
-    rows: &[Row],
-    plan: &Plan,
-    positions: &[usize; 64],
-    lag: u32,
-    windows: usize,
-) -> [Place; 64]
-    requires few { length rows.now ≤ 64 }
-    requires lag { (r : ℕ) → r < length rows.now → slice_index plan.now.lead r ≤ lag }
-    requires low { (r : ℕ) → slice_index plan.now.depth r ≤ 65 }
-    requires stages { (r : ℕ) → r < 64 → slice_index plan.now.stage r < 64 }
-    requires windows { windows ≤ 4160 }
-    ensures { Placed rows.now plan.now positions.now lag windows result (length rows.now) }
-{
-    let mut places = [Place::default(); 64];
-    let mut start = 0;
-    let mut cell = windows;
-    for (r, row) in rows.iter().enumerate() {
-        let depth = plan.depth[r] as usize;
-        places[r] = Place {
-            delay: lag - plan.lead[r],
-            depth,
-            start,
-            stage: plan.stage[r] as u8,
-            position: positions[r],
-            settled: cell,
-        };
-        start += depth;
-        cell += usize::from(is_asa(*row));
+impl TableRows<'_> {
+    /// The rows, in an array with room for as many as a table may have.
+    fn store(&self) -> [Row; 64]
+        ensures { take (length self.now.rows.now) result ≡ self.now.rows.now }
+    {
+        let mut stored = [Row::Truth(false); 64];
+        stored[..self.rows.len()].copy_from_slice(self.rows);
+        stored
     }
-    places
-}
 
-/// The schedule of rows that have a plan.
-fn schedule_rows(rows: &[Row], output: u8, plan: Plan) -> Schedule
-    requires few { length rows.now ≤ 64 }
-    requires closed { Closed rows.now }
-    requires output_within { output < length rows.now }
-    requires planned { Planned (table_edges rows.now) output plan }
-    ensures { Checked rows.now output result }
-{
-    let count = rows.len();
-    let lag = greatest(&plan.lead[..count]);
-    let windows = count_window_cells(&plan.depth[..count]) as usize;
-    let order = order_rows(&plan, count);
-    let positions = find_positions(&order[..count]);
-    Schedule {
-        rows: store_rows(rows),
-        count,
-        result: output,
-        plan,
-        places: place_rows(rows, &plan, &positions, lag, windows),
-        order,
-        lag,
-        stages: greatest(&plan.stage[..count]) as u8,
-        windows,
-        size: windows + count_asas(rows),
+    /// The place of each row, where the windows take the first cells.
+    fn find_places(
+        &self,
+        plan: &Plan,
+        positions: &[usize; 64],
+        lag: u32,
+        windows: usize,
+    ) -> [Place; 64]
+        requires lag { (r : ℕ) → r < length self.now.rows.now → slice_index plan.now.lead r ≤ lag }
+        requires low { (r : ℕ) → slice_index plan.now.depth r ≤ 65 }
+        requires stages { (r : ℕ) → r < 64 → slice_index plan.now.stage r < 64 }
+        requires windows { windows ≤ 4160 }
+        ensures { Placed self.now.rows.now plan.now positions.now lag windows result (length self.now.rows.now) }
+    {
+        let mut places = [Place::default(); 64];
+        let mut start = 0;
+        let mut cell = windows;
+        for (r, row) in self.rows.iter().enumerate() {
+            let depth = plan.depth[r] as usize;
+            places[r] = Place {
+                delay: lag - plan.lead[r],
+                depth,
+                start,
+                stage: plan.stage[r] as u8,
+                position: positions[r],
+                settled: cell,
+            };
+            start += depth;
+            cell += usize::from(is_asa(*row));
+        }
+        places
+    }
+
+    /// The schedule of rows that have a plan.
+    fn schedule(&self, output: u8, plan: Plan) -> Schedule
+        requires closed { Closed self.now.rows.now }
+        requires output_within { output < length self.now.rows.now }
+        requires planned { Planned (table_edges self.now.rows.now) output plan }
+        ensures { Checked self.now.rows.now output result }
+    {
+        let count = self.rows.len();
+        let lag = greatest(&plan.lead[..count]);
+        let windows = count_window_cells(&plan.depth[..count]) as usize;
+        let order = order_rows(&plan, count);
+        let positions = find_positions(&order[..count]);
+        Schedule {
+            rows: self.store(),
+            count,
+            result: output,
+            plan,
+            places: self.find_places(&plan, &positions, lag, windows),
+            order,
+            lag,
+            stages: greatest(&plan.stage[..count]) as u8,
+            windows,
+            size: windows + count_asas(self.rows),
+        }
     }
 }
-
-/// The most rows of a table.
-const ROWS: usize = 64;
 
 /// The checked table of the rows, of which one is that of the output.
 pub fn check_rows(rows: &[Row], output: u8) -> Result<Table, Defect>
@@ -104,11 +100,12 @@ pub fn check_rows(rows: &[Row], output: u8) -> Result<Table, Defect>
     if rows.len() > ROWS || usize::from(output) >= rows.len() {
         return Err(Defect::Malformed);
     }
-    let edges = list_edges(rows);
+    let table = TableRows { rows };
+    let edges = table.list_edges();
     if !join_rows(edges.as_slice(), rows.len()) {
         return Err(Defect::Malformed);
     }
     let plan = analyse(edges.as_slice(), usize::from(output))?;
-    let schedule = schedule_rows(rows, output, plan);
+    let schedule = table.schedule(output, plan);
     Ok(Table { schedule })
 }

@@ -1,9 +1,10 @@
 //! The edges of a table of rows.
 
-ghost use Rattle.std.specs.Prelude.{◌≡◌, ◌+◌, ◌<◌, ◌≤◌, [], ◌∷◌, ◌++◌, length};
+ghost use Rattle.std.specs.Prelude.{◌≡◌, ◌+◌, ◌<◌, ◌≤◌, [], ◌∷◌, ◌++◌};
 ghost use Rattle.arrayvec.specs.ArrayVec.{array_vec_len};
 ghost use Rattle.table.specs.Edges.{row_edges, table_edges};
 
+use crate::rows::TableRows;
 use arrayvec::ArrayVec;
 use graph::{Edge, Label};
 use reading::Row;
@@ -56,15 +57,15 @@ fn add_row(edges: &mut Edges, from: usize, row: Row)
     }
 }
 
-/// The edges of all rows.
-pub(crate) fn list_edges(rows: &[Row]) -> Edges
-    requires { length rows.now ≤ 64 }
-    ensures listed { result.items ≡ table_edges rows.now }
-    ensures few { array_vec_len result ≤ 192 }
-{
-    let mut edges = ArrayVec::new();
-    for (from, row) in rows.iter().enumerate() {
-        add_row(&mut edges, from, *row);
+impl TableRows<'_> {
+    /// The edges of all rows.
+    pub(crate) fn list_edges(&self) -> Edges
+        ensures { result.items ≡ table_edges self.now.rows.now }
+    {
+        let mut edges = ArrayVec::new();
+        for (from, row) in self.rows.iter().enumerate() {
+            add_row(&mut edges, from, *row);
+        }
+        edges
     }
-    edges
 }

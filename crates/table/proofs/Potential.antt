@@ -2,7 +2,7 @@
 use Rattle.std.proofs.Common.{ℕ, ◌+◌, ◌*◌, ◌^◌, ◌<◌, ◌≤◌, List, length, get_or, sym, subst, arith}
 use mathlib.Core.Logic.{∥∥₁_elim}
 use native.Mathlib.Bridge.{le_prop}
-use Rattle.std.specs.List.{ContainsAt as Has, AllByRecursion}
+use Rattle.std.specs.List.{ContainsAt as Has, AllByRecursion, AllByRecursion-prop}
 use Rattle.std.proofs.ByRecursion.{all-has, All-weaker, all_has_itself}
 use Rattle.reading.specs.declared.rows.Row.{Row}
 use Rattle.theory.specs.Rule.{row_at}
@@ -12,7 +12,7 @@ use Rattle.table.specs.declared.schedule.Schedule.{Schedule}
 use Rattle.table.specs.Layout.{Planned}
 use Rattle.table.specs.Tables.{Checked, Sound, rows_of, layout}
 use Rattle.table.proofs.Loops.{table-plans}
-use Rattle.table.proofs.Props.{planned-prop, down-prop, all_prop}
+use Rattle.table.proofs.Props.{planned-prop, down-prop}
 use Rattle.graph.specs.Labels.{plus, minus, infinite}
 use Rattle.table.specs.Edges.{labelled, edge_of}
 use Rattle.table.specs.Laws.{DeterminedBy, DeterminedRows}
@@ -48,7 +48,7 @@ module _ (t : Schedule) where
 
   falls-prop : (r : ℕ) → IsProp (Falls r)
   falls-prop r =
-      all_prop (λ e. (e.1 < length (rows_of t)) × Down 65 height stage r e.0 e.1)
+      AllByRecursion-prop (λ e. (e.1 < length (rows_of t)) × Down 65 height stage r e.0 e.1)
       (λ e p q i. (le_prop p.0 q.0 i, down-prop 65 height stage r e.0 e.1 p.1 q.1 i)) (edges (row_at (rows_of t) r))
 
   pub potential : ∥ Sound t ∥₁ → Potential (rows_of t)

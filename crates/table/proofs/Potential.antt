@@ -15,7 +15,7 @@ use Rattle.table.proofs.Loops.{table-plans}
 use Rattle.table.proofs.Props.{planned-prop, down-prop}
 use Rattle.graph.specs.Labels.{plus, minus, infinite}
 use Rattle.table.specs.Edges.{labelled, edge_of}
-use Rattle.table.specs.Laws.{DeterminedBy, DeterminedRows}
+use Rattle.table.specs.Laws.{DeterminedBy}
 use Rattle.table.proofs.Edges.{has-edge}
 
 down : (height stage : ℕ → ℕ) (a : ℕ) (l : Label) (x : ℕ) → stage x + infinite (labelled l) ≤ stage a
@@ -62,9 +62,6 @@ module _ (t : Schedule) where
         down = λ r h. ∥∥₁_elim s (falls-prop r) (λ c. falls c r h);
       }
 
-  pub sound-few : ∥ Sound t ∥₁ → t.count ≤ 64
-  sound-few s = ∥∥₁_elim s le_prop (λ c. omega (arith, c.count_is, c.few))
-
   pub sound-plans : ∥ Sound t ∥₁ → Planned (layout t)
   sound-plans s = ∥∥₁_elim s (planned-prop (layout t)) (table-plans (rows_of t) t.result t)
 
@@ -74,6 +71,3 @@ module _ (t : Schedule) where
 pub sound : (rows : List Row) (result : ℕ) (t : Schedule) → Checked rows result t → Sound t
 sound rows result t c =
     subst (λ (r : List Row). Checked r t.result t) (sym c.rows_are) (subst (λ (n : ℕ). Checked rows n t) (sym c.result_is) c)
-
-pub checked-determines : (V : Type 0) (rows : List Row) (result : ℕ) (t : Schedule) → Checked rows result t → DeterminedRows V rows
-checked-determines V rows result t c = subst (DeterminedRows V) c.rows_are (sound-determines t V ∣ sound rows result t c ∣₁)

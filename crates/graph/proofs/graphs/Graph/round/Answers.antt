@@ -1,6 +1,6 @@
 use Rattle.std.proofs.Common.{get_or, arith}
 use Rattle.graph.proofs.Tables.{none, has-at}
-use Rattle.graph.proofs.Rounds.{start-within, part_none, part-more, part-all}
+use Rattle.graph.proofs.Rounds.{start-within, part-more, part-all}
 use Rattle.graph.proofs.graphs.Graph.round.Goals as goal
 
 pub relax-requires : goal.relax-requires
@@ -12,9 +12,6 @@ relax-requires c =
       ends = e.1;
       room = λ k. omega (arith, c.args.self.now.few, c.loop-edge.invariant.1.low _ c.requires k);
     }
-
-pub loop-edge-init : goal.loop-edge-init
-loop-edge-init c = (omega arith, part_none _ _ _)
 
 pub loop-edge-preserved : goal.loop-edge-preserved
 loop-edge-preserved c =

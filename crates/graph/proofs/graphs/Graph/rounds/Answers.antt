@@ -1,9 +1,5 @@
-use Rattle.std.proofs.Common.{arith}
 use Rattle.graph.proofs.Rounds.{rounds-none, rounds-more, zeros}
 use Rattle.graph.proofs.graphs.Graph.rounds.Goals as goal
-
-pub round-requires : goal.round-requires
-round-requires c = λ k. omega (arith, c.loop.invariant.low k)
 
 pub loop-init : goal.loop-init
 loop-init c = rounds-none _ _ _ (zeros 64)

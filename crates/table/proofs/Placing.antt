@@ -1,13 +1,15 @@
 -- What fills in a table.
-use Rattle.std.proofs.Common.{◌≡◌, ℕ, ◌+◌, ◌*◌, ◌<◌, ◌≤◌, List, length, get_or, take, set, sum, sym, ap, ◌∙◌, subst, arith}
+use Rattle.std.proofs.Common.{◌≡◌, ℕ, ◌+◌, ◌*◌, ◌<◌, ◌≤◌, eqb, List, length, get_or, take, set, sum, sym, ◌∙◌, subst, arith}
 use native.Mathlib.Decide.{ℕ_discrete}
 use Rattle.std.proofs.lemmas.List.{get_or-set_same, get_or-set_other, length-take-le, get_or-take}
+use Rattle.std.specs.List.{IsDistinct}
+use Rattle.std.proofs.lemmas.Bool.{eqb-false}
+use Rattle.std.proofs.lemmas.Map.Keys.{apart_from_distinct}
 use Rattle.std.proofs.lemmas.Grind.{get_or_default_zero}
 use Rattle.std.proofs.lemmas.List.Elements.{All-from_all_within}
 use Rattle.std.proofs.lemmas.List.Sums.{sum_by-le}
 use Rattle.table.specs.Tables.{Greatest, Inverse}
 use Rattle.table.specs.Orders.{Listed}
-use Rattle.table.proofs.Positions.{position, position-order}
 
 -- The greatest of a front part.
 pub greatest-first : (xs : List ℕ) (n most : ℕ) → n ≤ length xs → Greatest (take n xs) (length (take n xs)) most → Greatest xs n most
@@ -24,13 +26,11 @@ sum-low b xs low =
     sum_by-le (λ x. x) b xs (All-from_all_within (λ x. x ≤ b) xs (λ k d a h. omega (arith, get_or_default_zero xs k d h, low k)))
 
 -- One more row has its position.
-pub inverse-more : (order positions : List ℕ) (i : ℕ) → Listed order → length order ≤ length positions → i < length order → Inverse order positions i
-    → Inverse order (set positions (get_or order i 0) i) (i + 1)
-inverse-more order positions i listed room h below k l = elim (ℕ_discrete k i) [
+pub inverse-more : (order positions : List ℕ) (i : ℕ) → Listed order → IsDistinct eqb order → length order ≤ length positions → i < length order
+    → Inverse order positions i → Inverse order (set positions (get_or order i 0) i) (i + 1)
+inverse-more order positions i listed distinct room h below k l = elim (ℕ_discrete k i) [
   | yes q ↦ subst (λ (m : ℕ). get_or (set positions (get_or order i 0) i) (get_or order m 0) 0 ≡ m) (sym q)
       (get_or-set_same positions (get_or order i 0) i 0 (omega (arith, listed.below i h)))
-  | no n ↦ get_or-set_other positions (get_or order i 0) (get_or order k 0) i 0 (λ e. n (apart e)) ∙ below k (omega (arith, n))
+  | no n ↦ get_or-set_other positions (get_or order i 0) (get_or order k 0) i 0
+      (eqb-false _ _ (apart_from_distinct eqb order k i 0 distinct (omega (arith, n)) h)) ∙ below k (omega (arith, n))
 ]
-  where
-    apart : get_or order k 0 ≡ get_or order i 0 → k ≡ i
-    apart e = sym (position-order order listed k (omega arith)) ∙ ap (position order listed) e ∙ position-order order listed i h

@@ -102,10 +102,10 @@ pub fn check_rows(rows: &[Row], output: u8) -> Result<Table, Defect>
     }
     let table = TableRows { rows };
     let edges = table.list_edges();
-    if !join_rows(edges.as_slice(), rows.len()) {
+    if !join_rows(&edges, rows.len()) {
         return Err(Defect::Malformed);
     }
-    let plan = analyse(edges.as_slice(), usize::from(output))?;
+    let plan = analyse(&edges, usize::from(output))?;
     let schedule = table.schedule(output, plan);
     Ok(Table { schedule })
 }

@@ -1,11 +1,12 @@
 use Rattle.std.proofs.Common.{ℕ, replicate, arith, length-set}
-use Rattle.graph.proofs.Tables.{has-at}
+use Rattle.std.proofs.ByRecursion.{has_get_or}
+use Rattle.graph.proofs.Tables.{none}
 use Rattle.graph.proofs.Deepening.{part_none, part-more, part-all, depth_small}
 use Rattle.graph.proofs.graphs.Graph.find_depths.Goals as goal
 
 pub deepen-requires : goal.deepen-requires
 deepen-requires c =
-    let e = c.args.self.now.within _ (has-at c.args.self.now.edges.now c.loop-edge.edge-index c.loop-edge-test.true) in
+    let e = c.args.self.now.within _ (has_get_or c.args.self.now.edges.now c.loop-edge.edge-index none c.loop-edge-test.true) in
     record { from = e.0; to = e.1; small = c.requires.small }
 
 pub loop-edge-init : goal.loop-edge-init

@@ -30,7 +30,7 @@ module _ (bs : List ℕ) where
   judged ws q c s l e live k = record { words = ws; place = q; depth = c; lies = l; viable = lives-viable ws s e; wrong = wrong ws q c s e live k }
 
   inside-open : (es gs : List Equation) (a : Atom) (x : Spot) → inside es a x ≡ ended gs → ⊥
-  inside-open es gs a x e = let z : ◌≡◌ {A = ℕ} 0 1 = cc in omega arith
+  inside-open es gs a x e = cc
 
   after : (ws : List Token) (x : State) → run start ws ≡ Some x → (vs : List Token) → run start (ws ++ vs) ≡ run x vs
   after ws x e vs = run-append ws vs start ∙ ap (λ o. and_then o (λ y. run y vs)) e
@@ -132,13 +132,13 @@ module _ (bs : List ℕ) where
   way-first p e = subst (λ x. Way bs start x 0) (sym e) way-start
 
   header-open : (ks : List Mark) → OpenState (header ks)
-  header-open ks gs e = let z : ◌≡◌ {A = ℕ} 0 1 = cc in omega arith
+  header-open ks gs e = cc
 
   name-open : (es : List Equation) → OpenState (name es)
-  name-open es gs e = let z : ◌≡◌ {A = ℕ} 0 1 = cc in omega arith
+  name-open es gs e = cc
 
   equals-open : (es : List Equation) (a : Atom) → OpenState (equals es a)
-  equals-open es a gs e = let z : ◌≡◌ {A = ℕ} 0 1 = cc in omega arith
+  equals-open es a gs e = cc
 
   -- another word stands for a mark that is due
   pub header-missing : {q : ℕ} {r : Refusal} (k : Mark) (ks : List Mark) → Way bs (header (k ∷ ks)) q 0 → Missing bs q k r → Refused bs r
@@ -201,11 +201,11 @@ moved-ended {q = q} e h = subst (λ b. Ended b q) e h
 -- what the answer on another equation says
 pub again-due : (bs bs' : List ℕ) (q : ℕ) (b : Bool) → bs' ≡ bs → b ≡ true → EquationRead bs' q (Ok b) → Due bs q
 again-due bs bs' q true e t h = moved-due e h
-again-due bs bs' q false e t h = absurd (let z : ◌≡◌ {A = ℕ} 0 1 = cc in omega arith)
+again-due bs bs' q false e t h = cc
 
 pub last-ended : (bs bs' : List ℕ) (q : ℕ) (b : Bool) → bs' ≡ bs → b ≡ false → EquationRead bs' q (Ok b) → Ended bs q
 last-ended bs bs' q false e t h = moved-ended e h
-last-ended bs bs' q true e t h = absurd (let z : ◌≡◌ {A = ℕ} 0 1 = cc in omega arith)
+last-ended bs bs' q true e t h = cc
 
 pub moved-accepted : {bs bs' : List ℕ} → bs' ≡ bs → Accepted bs' → Accepted bs
 moved-accepted e h = subst (λ b. Accepted b) e h

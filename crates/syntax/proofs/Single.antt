@@ -60,8 +60,8 @@ module _ (bs : List ℕ) where
 
   -- no viable words go on past a place where something is wrong
   stops : (ws vs : List Token) (q c : ℕ) {r : Refusal} → Wrong bs ws q c r → Viable vs → On ws q c vs → ⊥
-  stops ws vs q c (no_word h) v o = let f = o.stands in let z : ◌≡◌ {A = ℕ} 0 1 = cc in omega arith
-  stops ws vs q c (too_short h n) v o = let f = o.stands in let z : ◌≡◌ {A = ℕ} 0 1 = cc in omega arith
+  stops ws vs q c (no_word h) v o = let f = o.stands in cc
+  stops ws vs q c (too_short h n) v o = let f = o.stands in cc
   stops ws vs q c (no_text {w} {e} h n) v o =
       let t : Word w e ≡ Word o.next o.end = sym h ∙ o.stands in
       let i : o.next ≡ w = cc in
@@ -74,19 +74,19 @@ module _ (bs : List ℕ) where
 
   once : (ws : List Token) (q c : ℕ) {r s : Refusal} → Wrong bs ws q c r → Wrong bs ws q c s → r ≡ s
   once ws q c (no_word h) (no_word k) = refl
-  once ws q c (no_word h) (too_short k n) = absurd (let z : ◌≡◌ {A = ℕ} 0 1 = cc in omega arith)
-  once ws q c (no_word h) (no_text k n) = absurd (let z : ◌≡◌ {A = ℕ} 0 1 = cc in omega arith)
-  once ws q c (no_word h) (too_deep k n d) = absurd (let z : ◌≡◌ {A = ℕ} 0 1 = cc in omega arith)
-  once ws q c (too_short h m) (no_word k) = absurd (let z : ◌≡◌ {A = ℕ} 0 1 = cc in omega arith)
+  once ws q c (no_word h) (too_short k n) = cc
+  once ws q c (no_word h) (no_text k n) = cc
+  once ws q c (no_word h) (too_deep k n d) = cc
+  once ws q c (too_short h m) (no_word k) = cc
   once ws q c (too_short h m) (too_short k n) = refl
   once ws q c (too_short h m) (no_text k n) = refl
-  once ws q c (too_short h m) (too_deep k n d) = absurd (let z : ◌≡◌ {A = ℕ} 0 1 = cc in omega arith)
-  once ws q c (no_text h m) (no_word k) = absurd (let z : ◌≡◌ {A = ℕ} 0 1 = cc in omega arith)
+  once ws q c (too_short h m) (too_deep k n d) = cc
+  once ws q c (no_text h m) (no_word k) = cc
   once ws q c (no_text h m) (too_short k n) = refl
   once ws q c (no_text h m) (no_text k n) = refl
   once ws q c (no_text {w} h m) (too_deep k n d) = let i : word.Mark Open ≡ w = cc in absurd (m (subst (λ x. Viable (ws ++ x ∷ [])) i n))
-  once ws q c (too_deep h m d) (no_word k) = absurd (let z : ◌≡◌ {A = ℕ} 0 1 = cc in omega arith)
-  once ws q c (too_deep h m d) (too_short k n) = absurd (let z : ◌≡◌ {A = ℕ} 0 1 = cc in omega arith)
+  once ws q c (too_deep h m d) (no_word k) = cc
+  once ws q c (too_deep h m d) (too_short k n) = cc
   once ws q c (too_deep h m d) (no_text {w} k n) = let i : word.Mark Open ≡ w = cc in absurd (n (subst (λ x. Viable (ws ++ x ∷ [])) i m))
   once ws q c (too_deep h m d) (too_deep k n e) = refl
 
@@ -102,16 +102,16 @@ module _ (bs : List ℕ) where
       ]
 
   right_there : (ws : List Token) (q c : ℕ) {r : Refusal} → scan bs q ≡ Finish → Text ws → Wrong bs ws q c r → ⊥
-  right_there ws q c f t (no_word h) = let z : ◌≡◌ {A = ℕ} 0 1 = cc in omega arith
+  right_there ws q c f t (no_word h) = cc
   right_there ws q c f t (too_short h n) = n t
-  right_there ws q c f t (no_text h n) = let z : ◌≡◌ {A = ℕ} 0 1 = cc in omega arith
-  right_there ws q c f t (too_deep h n d) = let z : ◌≡◌ {A = ℕ} 0 1 = cc in omega arith
+  right_there ws q c f t (no_text h n) = cc
+  right_there ws q c f t (too_deep h n d) = cc
 
   apart : (r : Refusal) → Accepted bs → Refused bs r → ⊥
   apart r a b =
       elim (compare a.words b.words (skip bs 0) 0 a.place a.depth b.place b.depth a.lies b.lies) [
         | same e f g ↦ right_there a.words a.place a.depth a.ends a.text (moved-wrong a.words b.words a.place b.place a.depth b.depth r e f g b.wrong)
-        | shorter o ↦ (let f = o.stands in let g = a.ends in let z : ◌≡◌ {A = ℕ} 0 1 = cc in omega arith)
+        | shorter o ↦ (let f = o.stands in let g = a.ends in cc)
         | longer o ↦ stops b.words a.words b.place b.depth b.wrong ([], subst (λ x. Text x) (sym (append-nil a.words)) a.text) o
       ]
 

@@ -1,15 +1,16 @@
 //! Reads a text, and fills the table while it reads.
 
-ghost use Rattle.std.specs.Prelude.{◌≡◌, ℕ, ◌+◌, ◌<◌, ◌≤◌, length};
+ghost use Rattle.std.specs.Prelude.{◌≡◌, ℕ, ◌+◌, ◌<◌, ◌≤◌, length, IfOk};
+ghost use Rattle.std.specs.Option.{IfSome};
 ghost use Rattle.grammar.specs.Grammar.{atom_level};
-ghost use Rattle.lexer.specs.Lexer.{skip as skipped};
+ghost use Rattle.lexer.specs.Lexer.{skip, Ends};
 ghost use Rattle.syntax.specs.Judgement.{Due, Ended, HeaderRead, EquationRead, EquationsRead, FinishRead, Judged};
-ghost use Rattle.syntax.specs.Reading.{limit, Passed, Took, Marked, Moved, Kept, HeadRead, AnotherRead, OperandRead, ExpressionRead, InfixRead, Begins};
+ghost use Rattle.syntax.specs.Reading.{limit, Passed, Peeked, Took, Marked, Moved, Kept, HeadRead, AnotherRead, OperandRead, ExpressionRead, InfixRead, Begins};
 
 use crate::draft::{Draft, Node, empty, node_of};
 use crate::refusal::Refusal;
 use grammar::{ATOM, CHOICE, levels_of, names, prefix_level, prefix_of, takes};
-use lexer::{Atom, Infix, Mark, Next, Token, scan, skip};
+use lexer::{Atom, Infix, Mark, Token, Word, scan, skip};
 
 // The most bytes of a text.
 const MOST: usize = 4096;
@@ -31,30 +32,33 @@ pub struct Reader<'a> {
     place: usize,
     depth: usize,
     draft: Draft,
+    ghost within_limit: { depth ≤ limit },
 }
 
 impl<'a> Reader<'a> {
+    // The next word, which is not passed; none at the text's end.
+    fn peek(&self) -> Result<Option<Word>, Refusal>
+        ensures peeked { Peeked self.now.text.now self.now.place result }
+        ensures ends { IfOk result (λ found. IfSome found (Ends self.now.place (length self.now.text.now))) }
+    {
+        let at = self.place;
+        scan(self.text, at).map_err(|_| Refusal::NoWord(at))
+    }
+
     // The next word, which is passed.
     fn word(&mut self) -> Result<Token, Refusal>
-        requires { self.old.place ≤ length self.old.text.now }
         ensures text { self.new.text ≡ self.old.text }
         ensures depth { self.new.depth ≡ self.old.depth }
         ensures moved { Moved (length self.old.text.now) self.old.place self.new.place result }
         ensures took { Took self.old.text.now self.old.place self.new.place result }
     {
-        match scan(self.text, self.place) {
-            Next::Word(token, end) => {
-                self.place = skip(self.text, end);
-                Ok(token)
-            }
-            Next::Finish => Err(Refusal::Unexpected(self.place)),
-            Next::Bad => Err(Refusal::NoWord(self.place)),
-        }
+        let word = self.peek()?.ok_or(Refusal::Unexpected(self.place))?;
+        self.place = skip(self.text, word.end);
+        Ok(word.token)
     }
 
     // The next word, which has to be the mark.
     fn expect(&mut self, mark: Mark) -> Result<(), Refusal>
-        requires { self.old.place ≤ length self.old.text.now }
         ensures text { self.new.text ≡ self.old.text }
         ensures depth { self.new.depth ≡ self.old.depth }
         ensures moved { Moved (length self.old.text.now) self.old.place self.new.place result }
@@ -73,30 +77,24 @@ impl<'a> Reader<'a> {
 
     // The operator, if one goes on with an expression; it is passed.
     fn infix(&mut self, min: u8, level: u8) -> Result<Option<Infix>, Refusal>
-        requires { self.old.place ≤ length self.old.text.now }
         ensures text { self.new.text ≡ self.old.text }
         ensures depth { self.new.depth ≡ self.old.depth }
-        ensures high { self.new.place ≤ length self.old.text.now }
+        ensures high { self.old.place ≤ length self.old.text.now → self.new.place ≤ length self.old.text.now }
         ensures read { InfixRead self.old.text.now min level self.old.place self.new.place result }
     {
-        match scan(self.text, self.place) {
-            Next::Word(token, end) => {
-                let Some(op) = takes(min, level, token) else {
-                    return Ok(None);
-                };
-                self.place = skip(self.text, end);
-                Ok(Some(op))
-            }
-            Next::Finish => Ok(None),
-            Next::Bad => Err(Refusal::NoWord(self.place)),
-        }
+        let Some(word) = self.peek()? else {
+            return Ok(None);
+        };
+        let Some(op) = takes(min, level, word.token) else {
+            return Ok(None);
+        };
+        self.place = skip(self.text, word.end);
+        Ok(Some(op))
     }
 
     // A bracketed expression, whose bracket, at `at`, is passed.
-    #[cycle(bracket_choice_expression_operand_prefix)]
+    #[cycle(expression)]
     fn bracket(&mut self, min: u8, at: usize) -> Result<Part, Refusal>
-        requires place { self.old.place ≤ length self.old.text.now }
-        requires depth { self.old.depth ≤ limit }
         requires low { min ≤ atom_level }
         requires passed { Passed self.old.text.now at self.old.place (Token.Mark Mark.Open) }
         ensures text { self.new.text ≡ self.old.text }
@@ -118,10 +116,8 @@ impl<'a> Reader<'a> {
     }
 
     // An `if`, whose first word, at `at`, is passed.
-    #[cycle(bracket_choice_expression_operand_prefix)]
+    #[cycle(expression)]
     fn choice(&mut self, min: u8, at: usize) -> Result<Part, Refusal>
-        requires place { self.old.place ≤ length self.old.text.now }
-        requires depth { self.old.depth ≤ limit }
         requires low { min ≤ atom_level }
         requires passed { Passed self.old.text.now at self.old.place (Token.Mark Mark.If) }
         ensures text { self.new.text ≡ self.old.text }
@@ -147,10 +143,8 @@ impl<'a> Reader<'a> {
     }
 
     // An operator and its operand, whose first word, `token` at `at`, is passed.
-    #[cycle(bracket_choice_expression_operand_prefix)]
+    #[cycle(expression)]
     fn prefix(&mut self, min: u8, at: usize, token: Token) -> Result<Part, Refusal>
-        requires place { self.old.place ≤ length self.old.text.now }
-        requires depth { self.old.depth ≤ limit }
         requires low { min ≤ atom_level }
         requires passed { Passed self.old.text.now at self.old.place token }
         requires begins { Begins token }
@@ -159,9 +153,7 @@ impl<'a> Reader<'a> {
         ensures moved { Moved (length self.old.text.now) self.old.place self.new.place result }
         ensures read { OperandRead self.old.text.now min at self.old.depth self.new.place result }
     {
-        let Some(op) = prefix_of(token) else {
-            return Err(Refusal::Unexpected(at));
-        };
+        let op = prefix_of(token).ok_or(Refusal::Unexpected(at))?;
         let level = prefix_level(op);
         if min > level {
             return Err(Refusal::Unexpected(at));
@@ -175,10 +167,8 @@ impl<'a> Reader<'a> {
     }
 
     // The first part of an expression of level `min`, up to where an operator may follow.
-    #[cycle(bracket_choice_expression_operand_prefix)]
+    #[cycle(expression)]
     fn operand(&mut self, min: u8) -> Result<Part, Refusal>
-        requires place { self.old.place ≤ length self.old.text.now }
-        requires depth { self.old.depth ≤ limit }
         requires low { min ≤ atom_level }
         ensures text { self.new.text ≡ self.old.text }
         ensures depth { Kept self.old.depth self.new.depth result }
@@ -201,10 +191,8 @@ impl<'a> Reader<'a> {
     }
 
     // An expression of level `min`, as far as it goes.
-    #[cycle(bracket_choice_expression_operand_prefix)]
+    #[cycle(expression)]
     fn expression(&mut self, min: u8) -> Result<Part, Refusal>
-        requires place { self.old.place ≤ length self.old.text.now }
-        requires depth { self.old.depth ≤ limit }
         requires low { min ≤ atom_level }
         ensures text { self.new.text ≡ self.old.text }
         ensures depth { Kept self.old.depth self.new.depth result }
@@ -227,7 +215,6 @@ impl<'a> Reader<'a> {
 
     // The left side of an equation: a name or a channel.
     fn head(&mut self) -> Result<Atom, Refusal>
-        requires { self.old.place ≤ length self.old.text.now }
         ensures text { self.new.text ≡ self.old.text }
         ensures depth { self.new.depth ≡ self.old.depth }
         ensures moved { Moved (length self.old.text.now) self.old.place self.new.place result }
@@ -246,7 +233,6 @@ impl<'a> Reader<'a> {
 
     // Whether another equation follows, after one; the semicolon or `end` is passed.
     fn another(&mut self) -> Result<bool, Refusal>
-        requires { self.old.place ≤ length self.old.text.now }
         ensures text { self.new.text ≡ self.old.text }
         ensures depth { self.new.depth ≡ self.old.depth }
         ensures moved { Moved (length self.old.text.now) self.old.place self.new.place result }
@@ -268,9 +254,8 @@ impl<'a> Reader<'a> {
 
     // The words before the first equation.
     fn header(&mut self) -> Result<(), Refusal>
-        requires place { self.old.place ≤ length self.old.text.now }
         requires depth { self.old.depth ≡ 0 }
-        requires first { self.old.place ≡ skipped self.old.text.now 0 }
+        requires first { self.old.place ≡ skip self.old.text.now 0 }
         ensures text { self.new.text ≡ self.old.text }
         ensures depth { Kept 0 self.new.depth result }
         ensures moved { Moved (length self.old.text.now) self.old.place self.new.place result }
@@ -283,7 +268,6 @@ impl<'a> Reader<'a> {
 
     // An equation, with the semicolon or `end` after it; whether another follows.
     fn equation(&mut self) -> Result<bool, Refusal>
-        requires place { self.old.place ≤ length self.old.text.now }
         requires depth { self.old.depth ≡ 0 }
         requires due { Due self.old.text.now self.old.place }
         ensures text { self.new.text ≡ self.old.text }
@@ -301,7 +285,6 @@ impl<'a> Reader<'a> {
 
     // All equations, with `end` after the last.
     fn equations(&mut self) -> Result<(), Refusal>
-        requires place { self.old.place ≤ length self.old.text.now }
         requires depth { self.old.depth ≡ 0 }
         requires due { Due self.old.text.now self.old.place }
         ensures text { self.new.text ≡ self.old.text }
@@ -315,14 +298,12 @@ impl<'a> Reader<'a> {
 
     // Whether nothing follows the text.
     fn finish(&self) -> Result<(), Refusal>
-        requires place { self.now.place ≤ length self.now.text.now }
         requires ended { Ended self.now.text.now self.now.place }
         ensures { FinishRead self.now.text.now result }
     {
-        match scan(self.text, self.place) {
-            Next::Word(_, _) => Err(Refusal::Unexpected(self.place)),
-            Next::Finish => Ok(()),
-            Next::Bad => Err(Refusal::NoWord(self.place)),
+        match self.peek()? {
+            Some(_) => Err(Refusal::Unexpected(self.place)),
+            None => Ok(()),
         }
     }
 }

@@ -1,8 +1,8 @@
-use Rattle.std.proofs.Common.{ap, ◌∙◌}
+use Rattle.lexer.specs.Lexer.{a_word}
+use Rattle.std.proofs.Common.{ap, ◌∙◌, Ok, Some}
 use Rattle.std.proofs.lemmas.Result.{err_from_is_err_and}
 use Rattle.lexer.specs.declared.token.Token.TheVariants.{Mark}
 use Rattle.lexer.specs.declared.token.Mark.TheVariants.{Semicolon, End}
-use Rattle.lexer.specs.declared.lexer.Next.TheVariants.{Word}
 use Rattle.syntax.specs.Reading.{none, wrong}
 use Rattle.grammar.proofs.Parts.{is-other, is-no-mark}
 use Rattle.syntax.proofs.reader.Reader.another.Goals as goal
@@ -20,14 +20,14 @@ returns-in_default c =
 pub returns-in-Semicolon : goal.returns-in-Semicolon
 returns-in-Semicolon c =
     let k = c.in_ok-mark.ensures.took in
-    record { text = c.word.ensures.text; depth = c.word.ensures.depth; moved = c.in_ok-mark.ensures.moved; read = (k.0, k.1 ∙ ap (λ w. Word w k.0) (c.in-Mark.is ∙ ap Mark c.in-Semicolon.is), k.2) }
+    record { text = c.word.ensures.text; depth = c.word.ensures.depth; moved = c.in_ok-mark.ensures.moved; read = (k.0, k.1 ∙ ap (λ w. Ok (Some (a_word w k.0))) (c.in-Mark.is ∙ ap Mark c.in-Semicolon.is), k.2) }
 
 pub returns-in-End : goal.returns-in-End
 returns-in-End c =
     let k = c.in_ok-mark.ensures.took in
-    record { text = c.word.ensures.text; depth = c.word.ensures.depth; moved = c.in_ok-mark.ensures.moved; read = (k.0, k.1 ∙ ap (λ w. Word w k.0) (c.in-Mark.is ∙ ap Mark c.in-End.is), k.2) }
+    record { text = c.word.ensures.text; depth = c.word.ensures.depth; moved = c.in_ok-mark.ensures.moved; read = (k.0, k.1 ∙ ap (λ w. Ok (Some (a_word w k.0))) (c.in-Mark.is ∙ ap Mark c.in-End.is), k.2) }
 
 pub returns-in_default-mark : goal.returns-in_default-mark
 returns-in_default-mark c =
     let k = c.in_ok-mark.ensures.took in
-    record { text = c.word.ensures.text; depth = c.word.ensures.depth; moved = tt; read = wrong (k.1 ∙ ap (λ w. Word w k.0) c.in-Mark.is) (is-other Semicolon _ c.in_default-mark.not-Semicolon, is-other End _ c.in_default-mark.not-End) }
+    record { text = c.word.ensures.text; depth = c.word.ensures.depth; moved = tt; read = wrong (k.1 ∙ ap (λ w. Ok (Some (a_word w k.0))) c.in-Mark.is) (is-other Semicolon _ c.in_default-mark.not-Semicolon, is-other End _ c.in_default-mark.not-End) }

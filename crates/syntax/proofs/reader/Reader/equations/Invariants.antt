@@ -7,7 +7,6 @@ invariant-loop l =
     (l.self.text ≡ l.initial.self.text)
     × (l.self.depth ≡ 0)
     × (l.initial.self.place ≤ l.self.place)
-    × (l.self.place ≤ length l.self.text.now)
     × Due l.initial.self.text.now l.self.place
 
 abbrev pub decreases-loop : goal.decreases-loop

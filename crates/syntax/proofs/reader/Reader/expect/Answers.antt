@@ -1,9 +1,9 @@
+use Rattle.lexer.specs.Lexer.{a_word}
 use denote.Enum.Bare.{same_true, same_false}
-use Rattle.std.proofs.Common.{sym, ap, ◌∙◌, rules}
+use Rattle.std.proofs.Common.{sym, ap, ◌∙◌, rules, Ok, Some}
 use Rattle.std.proofs.lemmas.Result.{err_from_is_err_and}
 use Rattle.lexer.specs.contracts.token.Mark.{the_type}
 use Rattle.lexer.specs.declared.token.Token.TheVariants.{Mark}
-use Rattle.lexer.specs.declared.lexer.Next.TheVariants.{Word}
 use Rattle.syntax.specs.Reading.{halted, other_word}
 use Rattle.grammar.specs.Machine.{is}
 use Rattle.grammar.proofs.Parts.{is-other, is-no-mark}
@@ -19,4 +19,4 @@ pub returns-else-eq : goal.returns-else-eq
 returns-else-eq c = record { text = c.word.ensures.text; depth = c.word.ensures.depth; moved = tt; marked = let k = c.in_ok-found.ensures.took in other_word k.1 (ap (is c.args.mark) c.in-Mark.is ∙ is-other _ _ (same_false the_type _ _ (sym c.if-eq.ensures))) }
 
 pub returns-then-eq : goal.returns-then-eq
-returns-then-eq c = record { text = c.word.ensures.text; depth = c.word.ensures.depth; moved = c.in_ok-found.ensures.moved; marked = let k = c.in_ok-found.ensures.took in (k.0, k.1 ∙ ap (λ w. Word w k.0) (c.in-Mark.is ∙ ap Mark (same_true the_type (search rules) _ _ (sym c.if-eq.ensures))), k.2) }
+returns-then-eq c = record { text = c.word.ensures.text; depth = c.word.ensures.depth; moved = c.in_ok-found.ensures.moved; marked = let k = c.in_ok-found.ensures.took in (k.0, k.1 ∙ ap (λ w. Ok (Some (a_word w k.0))) (c.in-Mark.is ∙ ap Mark (same_true the_type (search rules) _ _ (sym c.if-eq.ensures))), k.2) }

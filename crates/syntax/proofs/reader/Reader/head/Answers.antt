@@ -1,6 +1,6 @@
-use Rattle.std.proofs.Common.{sym, ap, ◌∙◌}
+use Rattle.lexer.specs.Lexer.{a_word}
+use Rattle.std.proofs.Common.{sym, ap, ◌∙◌, Ok, Some}
 use Rattle.std.proofs.lemmas.Result.{err_from_is_err_and}
-use Rattle.lexer.specs.declared.lexer.Next.TheVariants.{Word}
 use Rattle.syntax.specs.Reading.{none, wrong}
 use Rattle.grammar.proofs.Parts.{not-head, no-head}
 use Rattle.syntax.proofs.reader.Reader.head.Goals as goal
@@ -18,9 +18,9 @@ returns-in_default c =
 pub returns-then-names : goal.returns-then-names
 returns-then-names c =
     let k = c.in_ok-atom.ensures.took in
-    record { text = c.word.ensures.text; depth = c.word.ensures.depth; moved = c.in_ok-atom.ensures.moved; read = (k.0, k.1 ∙ ap (λ w. Word w k.0) c.in-Atom.is, k.2, sym c.names.ensures ∙ c.if-names.true) }
+    record { text = c.word.ensures.text; depth = c.word.ensures.depth; moved = c.in_ok-atom.ensures.moved; read = (k.0, k.1 ∙ ap (λ w. Ok (Some (a_word w k.0))) c.in-Atom.is, k.2, sym c.names.ensures ∙ c.if-names.true) }
 
 pub returns-else-names : goal.returns-else-names
 returns-else-names c =
     let k = c.in_ok-atom.ensures.took in
-    record { text = c.word.ensures.text; depth = c.word.ensures.depth; moved = tt; read = wrong (k.1 ∙ ap (λ w. Word w k.0) c.in-Atom.is) (λ es. no-head es c.in-Atom.atom (sym c.names.ensures ∙ c.if-names.false)) }
+    record { text = c.word.ensures.text; depth = c.word.ensures.depth; moved = tt; read = wrong (k.1 ∙ ap (λ w. Ok (Some (a_word w k.0))) c.in-Atom.is) (λ es. no-head es c.in-Atom.atom (sym c.names.ensures ∙ c.if-names.false)) }

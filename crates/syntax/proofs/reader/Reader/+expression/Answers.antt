@@ -1,14 +1,13 @@
-use Rattle.std.proofs.Common.{◌≤◌, length, Ok, sym, refl, ap, ◌∙◌, subst, arith}
+use Rattle.std.proofs.Common.{◌≤◌, length, Ok, sym, refl, ap, ◌∙◌, subst, arith, Some}
 use Rattle.std.proofs.lemmas.Result.{err_from_is_err_and}
 use Rattle.lexer.specs.declared.token.Token.TheVariants as word
 use Rattle.lexer.specs.declared.token.Mark.TheVariants.{Open, Close, If, Then, Else}
-use Rattle.lexer.specs.declared.lexer.Next.TheVariants.{Word}
-use Rattle.lexer.specs.Lexer.{scan}
+use Rattle.lexer.specs.Lexer.{scan, a_word}
 use Rattle.grammar.specs.Machine.{group, test, branch, other, operand, right}
 use Rattle.syntax.specs.Reading.{InfixRead}
 use Rattle.grammar.proofs.Sound.{right-low}
-use Rattle.syntax.proofs.Steps.{leads-then, into, nested, no-first, refused-first, atom-read, deep-first, open-leads, if-leads, then-leads, else-leads, no-close, no-then, no-else, group-read, choice-read, prefix-leads, prefix-read, infix-leads, infix-read, no-word-after, moved_ok, moved-err, no-mark-begins, no-if-begins, operator, no-prefix-begins, low-prefix-begins, prefix-word, moved-level, moved_at, moved-x, ends_at, moved-missing, moved-marked, moved-whole, no-word-is, moved-operand, moved-kept, moved_more}
-use Rattle.syntax.proofs.reader.Reader.+bracket_choice_expression_operand_prefix.Goals as goal
+use Rattle.syntax.proofs.Steps.{leads-then, into, nested, no-first, refused-first, atom-read, deep-first, open-leads, if-leads, then-leads, else-leads, no-close, no-then, no-else, group-read, choice-read, prefix-leads, prefix-read, infix-leads, infix-read, no-word-after, moved_ok, moved-err, no-mark-begins, no-if-begins, operator, no-prefix-begins, low-prefix-begins, prefix-word, moved-level, moved_at, moved-x, ends_at, moved-missing, moved-marked, moved-whole, no-word-is, none_there, moved-operand, moved-kept, moved_more}
+use Rattle.syntax.proofs.reader.Reader.+expression.Goals as goal
 
 pub bracket-returns-then-self-ge-LIMIT : goal.bracket-returns-then-self-ge-LIMIT
 bracket-returns-then-self-ge-LIMIT t c =
@@ -46,14 +45,14 @@ choice-returns-then-min-gt-CHOICE t c =
 pub choice-returns-in_err-test : goal.choice-returns-in_err-test
 choice-returns-in_err-test t c =
     let k = c.requires.passed in
-    let L0 = if-leads _ {n = c.args.min} k.1 c.if-min-gt-CHOICE.false c.requires.depth in
+    let L0 = if-leads _ {n = c.args.min} k.1 c.if-min-gt-CHOICE.false c.args.self.now.within_limit in
     let p = err_from_is_err_and c.from_residual.result c.from_residual.ensures.1 in
     rw (p.1, p.2) (record { text = c.expression.ensures.text; depth = tt; moved = tt; read = into _ L0 (nested _ (test c.args.min) 3 (moved-err refl k.2 refl c.in_err-test.ensures.read)) })
 
 pub choice-returns-in_err-expect : goal.choice-returns-in_err-expect
 choice-returns-in_err-expect t c =
     let k = c.requires.passed in
-    let L0 = if-leads _ {n = c.args.min} k.1 c.if-min-gt-CHOICE.false c.requires.depth in
+    let L0 = if-leads _ {n = c.args.min} k.1 c.if-min-gt-CHOICE.false c.args.self.now.within_limit in
     let X1 = moved_ok refl k.2 refl c.in_ok-test.ensures.read in
     let T1 = c.expression.ensures.text in
     let p = err_from_is_err_and c.from_residual-in_err-expect.result c.from_residual-in_err-expect.ensures.1 in
@@ -62,20 +61,20 @@ choice-returns-in_err-expect t c =
 pub choice-returns-in_err-branch : goal.choice-returns-in_err-branch
 choice-returns-in_err-branch t c =
     let k = c.requires.passed in
-    let L0 = if-leads _ {n = c.args.min} k.1 c.if-min-gt-CHOICE.false c.requires.depth in
+    let L0 = if-leads _ {n = c.args.min} k.1 c.if-min-gt-CHOICE.false c.args.self.now.within_limit in
     let X1 = moved_ok refl k.2 refl c.in_ok-test.ensures.read in
     let T1 = c.expression.ensures.text in
     let M1 = moved-marked c.args.self.now.text.now _ c.expression.new.self.place c.expect.new.self.place (word.Mark Then) (ap (λ x. x.now) T1) c.in_ok-expect.ensures.marked in
     let T2 = c.expect.ensures.text ∙ T1 in
     let D2 = c.expect.ensures.depth ∙ c.in_ok-test.ensures.depth in
-    let L1 = leads-then _ L0 (then-leads _ X1.0 M1.1 c.requires.depth) in
+    let L1 = leads-then _ L0 (then-leads _ X1.0 M1.1 c.args.self.now.within_limit) in
     let p = err_from_is_err_and c.from_residual-in_err-branch.result c.from_residual-in_err-branch.ensures.1 in
     rw (p.1, p.2) (record { text = c.expression-2.ensures.text ∙ T2; depth = tt; moved = tt; read = into _ L1 (nested _ (branch c.args.min X1.0.tree) 3 (moved-err (ap (λ x. x.now) T2) M1.2 D2 c.in_err-branch.ensures.read)) })
 
 pub choice-returns-in_err-expect-2 : goal.choice-returns-in_err-expect-2
 choice-returns-in_err-expect-2 t c =
     let k = c.requires.passed in
-    let L0 = if-leads _ {n = c.args.min} k.1 c.if-min-gt-CHOICE.false c.requires.depth in
+    let L0 = if-leads _ {n = c.args.min} k.1 c.if-min-gt-CHOICE.false c.args.self.now.within_limit in
     let X1 = moved_ok refl k.2 refl c.in_ok-test.ensures.read in
     let T1 = c.expression.ensures.text in
     let M1 = moved-marked c.args.self.now.text.now _ c.expression.new.self.place c.expect.new.self.place (word.Mark Then) (ap (λ x. x.now) T1) c.in_ok-expect.ensures.marked in
@@ -83,14 +82,14 @@ choice-returns-in_err-expect-2 t c =
     let D2 = c.expect.ensures.depth ∙ c.in_ok-test.ensures.depth in
     let X2 = moved_ok (ap (λ x. x.now) T2) M1.2 D2 c.in_ok-branch.ensures.read in
     let T3 = c.expression-2.ensures.text ∙ T2 in
-    let L1 = leads-then _ L0 (then-leads _ X1.0 M1.1 c.requires.depth) in
+    let L1 = leads-then _ L0 (then-leads _ X1.0 M1.1 c.args.self.now.within_limit) in
     let p = err_from_is_err_and c.from_residual-in_err-expect-2.result c.from_residual-in_err-expect-2.ensures.1 in
     rw (p.1, p.2) (record { text = c.expect-2.ensures.text ∙ T3; depth = tt; moved = tt; read = into _ L1 (no-else _ X1.0.tree X2.0 X2.1 (moved-missing (ap (λ x. x.now) T3) c.in_err-expect-2.ensures.marked)) })
 
 pub choice-returns-in_err-other : goal.choice-returns-in_err-other
 choice-returns-in_err-other t c =
     let k = c.requires.passed in
-    let L0 = if-leads _ {n = c.args.min} k.1 c.if-min-gt-CHOICE.false c.requires.depth in
+    let L0 = if-leads _ {n = c.args.min} k.1 c.if-min-gt-CHOICE.false c.args.self.now.within_limit in
     let X1 = moved_ok refl k.2 refl c.in_ok-test.ensures.read in
     let T1 = c.expression.ensures.text in
     let M1 = moved-marked c.args.self.now.text.now _ c.expression.new.self.place c.expect.new.self.place (word.Mark Then) (ap (λ x. x.now) T1) c.in_ok-expect.ensures.marked in
@@ -98,11 +97,11 @@ choice-returns-in_err-other t c =
     let D2 = c.expect.ensures.depth ∙ c.in_ok-test.ensures.depth in
     let X2 = moved_ok (ap (λ x. x.now) T2) M1.2 D2 c.in_ok-branch.ensures.read in
     let T3 = c.expression-2.ensures.text ∙ T2 in
-    let L1 = leads-then _ L0 (then-leads _ X1.0 M1.1 c.requires.depth) in
+    let L1 = leads-then _ L0 (then-leads _ X1.0 M1.1 c.args.self.now.within_limit) in
     let M2 = moved-marked c.args.self.now.text.now _ c.expression-2.new.self.place c.expect-2.new.self.place (word.Mark Else) (ap (λ x. x.now) T3) c.in_ok-expect-2.ensures.marked in
     let T4 = c.expect-2.ensures.text ∙ T3 in
     let D4 = c.expect-2.ensures.depth ∙ c.in_ok-branch.ensures.depth ∙ D2 in
-    let L2 = leads-then _ L1 (else-leads _ X1.0.tree X2.0 M2.1 c.requires.depth) in
+    let L2 = leads-then _ L1 (else-leads _ X1.0.tree X2.0 M2.1 c.args.self.now.within_limit) in
     let p = err_from_is_err_and c.from_residual-in_err-other.result c.from_residual-in_err-other.ensures.1 in
     rw (p.1, p.2) (record { text = c.expression-3.ensures.text ∙ T4; depth = tt; moved = tt; read = into _ L2 (nested _ (other c.args.min X1.0.tree X2.0.tree) 3 (moved-err (ap (λ x. x.now) T4) M2.2 D4 c.in_err-other.ensures.read)) })
 
@@ -126,31 +125,33 @@ choice-returns t c =
     let m3 = c.in_ok-branch.ensures.moved in
     let m4 = c.in_ok-expect-2.ensures.moved in
     let m5 = c.in_ok-other.ensures.moved in
-    record { text = c.expression-3.ensures.text ∙ T4; depth = c.in_ok-other.ensures.depth ∙ D4; moved = (omega arith, omega (arith, ap length n4)); read = choice-read _ k.1 c.if-min-gt-CHOICE.false c.requires.depth X1.0 M1.1 X2.0 M2.1 X3.0 X3.1 }
+    record { text = c.expression-3.ensures.text ∙ T4; depth = c.in_ok-other.ensures.depth ∙ D4; moved = (omega arith, omega (arith, ap length n4)); read = choice-read _ k.1 c.if-min-gt-CHOICE.false c.args.self.now.within_limit X1.0 M1.1 X2.0 M2.1 X3.0 X3.1 }
 
-pub prefix-returns-in_default : goal.prefix-returns-in_default
-prefix-returns-in_default t c =
-    record { text = refl; depth = tt; moved = tt; read = refused-first _ c.requires.passed.1 (no-prefix-begins c.args.token c.args.min c.requires.begins (sym c.in_default.ensures)) }
+pub prefix-returns-in_err-op : goal.prefix-returns-in_err-op
+prefix-returns-in_err-op t c =
+    let p = err_from_is_err_and c.from_residual.result c.from_residual.ensures.1 in
+    let n = none_there _ c.in_err-op.ensures.value in
+    rw (p.1, p.2, n.1) (record { text = refl; depth = tt; moved = tt; read = refused-first _ c.requires.passed.1 (no-prefix-begins c.args.token c.args.min c.requires.begins (sym c.prefix_of.ensures ∙ n.0)) })
 
 pub prefix-returns-then-min-level : goal.prefix-returns-then-min-level
 prefix-returns-then-min-level t c =
-    record { text = refl; depth = tt; moved = tt; read = refused-first _ c.requires.passed.1 (low-prefix-begins c.args.token c.args.min c.in-Some.op c.requires.begins (sym c.in-Some.ensures) (omega (arith, c.prefix_level-level.ensures, c.if-min-level.true))) }
+    record { text = refl; depth = tt; moved = tt; read = refused-first _ c.requires.passed.1 (low-prefix-begins c.args.token c.args.min c.in_ok-op.op c.requires.begins (sym c.prefix_of.ensures ∙ c.in_ok-op.ensures.ok_part) (omega (arith, c.prefix_level-level.ensures, c.if-min-level.true))) }
 
 pub prefix-returns-in_err-inner : goal.prefix-returns-in_err-inner
 prefix-returns-in_err-inner t c =
     let k = c.requires.passed in
-    let g = k.1 ∙ ap (λ v. Word v k.0) (prefix-word c.args.token c.in-Some.op (sym c.in-Some.ensures)) in
+    let g = k.1 ∙ ap (λ v. Ok (Some (a_word v k.0))) (prefix-word c.args.token c.in_ok-op.op (sym c.prefix_of.ensures ∙ c.in_ok-op.ensures.ok_part)) in
     let low = subst (λ x. c.args.min ≤ x) c.prefix_level-level.ensures c.if-min-level.false in
-    let p = err_from_is_err_and c.from_residual.result c.from_residual.ensures.1 in
-    rw (p.1, p.2) (record { text = c.expression.ensures.text; depth = tt; moved = tt; read = into _ (prefix-leads _ c.in-Some.op g low c.requires.depth) (nested _ (operand c.args.min c.in-Some.op) _ (moved_at c.prefix_level-level.ensures (moved-err refl k.2 refl c.in_err-inner.ensures.read))) })
+    let p = err_from_is_err_and c.from_residual-in_err-inner.result c.from_residual-in_err-inner.ensures.1 in
+    rw (p.1, p.2) (record { text = c.expression.ensures.text; depth = tt; moved = tt; read = into _ (prefix-leads _ c.in_ok-op.op g low c.args.self.now.within_limit) (nested _ (operand c.args.min c.in_ok-op.op) _ (moved_at c.prefix_level-level.ensures (moved-err refl k.2 refl c.in_err-inner.ensures.read))) })
 
 pub prefix-returns : goal.prefix-returns
 prefix-returns t c =
     let k = c.requires.passed in
-    let g = k.1 ∙ ap (λ v. Word v k.0) (prefix-word c.args.token c.in-Some.op (sym c.in-Some.ensures)) in
+    let g = k.1 ∙ ap (λ v. Ok (Some (a_word v k.0))) (prefix-word c.args.token c.in_ok-op.op (sym c.prefix_of.ensures ∙ c.in_ok-op.ensures.ok_part)) in
     let low = subst (λ x. c.args.min ≤ x) c.prefix_level-level.ensures c.if-min-level.false in
     let X = moved-level c.prefix_level-level.ensures (moved_ok refl k.2 refl c.in_ok-inner.ensures.read) in
-    record { text = c.expression.ensures.text; depth = c.in_ok-inner.ensures.depth; moved = c.in_ok-inner.ensures.moved; read = ends_at refl (sym c.prefix_level-level.ensures) (prefix-read _ c.in-Some.op g low c.requires.depth X.0 X.1) }
+    record { text = c.expression.ensures.text; depth = c.in_ok-inner.ensures.depth; moved = c.in_ok-inner.ensures.moved; read = ends_at refl (sym c.prefix_level-level.ensures) (prefix-read _ c.in_ok-op.op g low c.args.self.now.within_limit X.0 X.1) }
 
 pub operand-returns-in_err-token : goal.operand-returns-in_err-token
 operand-returns-in_err-token t c =
@@ -160,28 +161,28 @@ operand-returns-in_err-token t c =
 pub operand-returns-in-Atom : goal.operand-returns-in-Atom
 operand-returns-in-Atom t c =
     let k = c.in_ok-token.ensures.took in
-    record { text = c.word.ensures.text; depth = c.word.ensures.depth; moved = c.in_ok-token.ensures.moved; read = ends_at k.2 refl (atom-read _ (k.1 ∙ ap (λ v. Word v k.0) c.in-Atom.is) c.requires.low c.requires.depth) }
+    record { text = c.word.ensures.text; depth = c.word.ensures.depth; moved = c.in_ok-token.ensures.moved; read = ends_at k.2 refl (atom-read _ (k.1 ∙ ap (λ v. Ok (Some (a_word v k.0))) c.in-Atom.is) c.requires.low c.args.self.now.within_limit) }
 
 pub operand-returns-in_default-mark : goal.operand-returns-in_default-mark
 operand-returns-in_default-mark t c =
     let k = c.in_ok-token.ensures.took in
-    record { text = c.word.ensures.text; depth = tt; moved = tt; read = refused-first _ (k.1 ∙ ap (λ v. Word v k.0) c.in-Mark.is) (λ fs. no-mark-begins c.args.min c.in-Mark.mark fs c.in_default-mark.not-Open c.in_default-mark.not-If) }
+    record { text = c.word.ensures.text; depth = tt; moved = tt; read = refused-first _ (k.1 ∙ ap (λ v. Ok (Some (a_word v k.0))) c.in-Mark.is) (λ fs. no-mark-begins c.args.min c.in-Mark.mark fs c.in_default-mark.not-Open c.in_default-mark.not-If) }
 
 pub operand-bracket-requires : goal.operand-bracket-requires
 operand-bracket-requires t c =
     let k = c.in_ok-token.ensures.took in
     let m = c.in_ok-token.ensures.moved in
     let n1 = ap (λ x. x.now) c.word.ensures.text in
-    let P = moved-marked c.word.new.self.text.now c.args.self.now.text.now c.args.self.now.place c.word.new.self.place (word.Mark Open) (sym n1) (k.0, k.1 ∙ ap (λ v. Word v k.0) (c.in-Mark.is ∙ ap word.Mark c.in-Open.is), k.2) in
-    (omega (arith, c.decreases, m, ap length n1), (omega (arith, m, ap length n1), (omega (arith, c.word.ensures.depth, c.requires.depth), (c.requires.low, P))))
+    let P = moved-marked c.word.new.self.text.now c.args.self.now.text.now c.args.self.now.place c.word.new.self.place (word.Mark Open) (sym n1) (k.0, k.1 ∙ ap (λ v. Ok (Some (a_word v k.0))) (c.in-Mark.is ∙ ap word.Mark c.in-Open.is), k.2) in
+    (omega (arith, c.decreases, m, ap length n1), (c.requires.low, P))
 
 pub operand-choice-requires : goal.operand-choice-requires
 operand-choice-requires t c =
     let k = c.in_ok-token.ensures.took in
     let m = c.in_ok-token.ensures.moved in
     let n1 = ap (λ x. x.now) c.word.ensures.text in
-    let P = moved-marked c.word.new.self.text.now c.args.self.now.text.now c.args.self.now.place c.word.new.self.place (word.Mark If) (sym n1) (k.0, k.1 ∙ ap (λ v. Word v k.0) (c.in-Mark.is ∙ ap word.Mark c.in-If.is), k.2) in
-    (omega (arith, c.decreases, m, ap length n1), (omega (arith, m, ap length n1), (omega (arith, c.word.ensures.depth, c.requires.depth), (c.requires.low, P))))
+    let P = moved-marked c.word.new.self.text.now c.args.self.now.text.now c.args.self.now.place c.word.new.self.place (word.Mark If) (sym n1) (k.0, k.1 ∙ ap (λ v. Ok (Some (a_word v k.0))) (c.in-Mark.is ∙ ap word.Mark c.in-If.is), k.2) in
+    (omega (arith, c.decreases, m, ap length n1), (c.requires.low, P))
 
 pub operand-prefix-requires : goal.operand-prefix-requires
 operand-prefix-requires t c =
@@ -189,7 +190,7 @@ operand-prefix-requires t c =
     let m = c.in_ok-token.ensures.moved in
     let n1 = ap (λ x. x.now) c.word.ensures.text in
     let P = moved-marked c.word.new.self.text.now c.args.self.now.text.now c.args.self.now.place c.word.new.self.place c.in_ok-token.token (sym n1) k in
-    (omega (arith, c.decreases, m, ap length n1), (omega (arith, m, ap length n1), (omega (arith, c.word.ensures.depth, c.requires.depth), (c.requires.low, (P, operator c.in_ok-token.token c.in_default.not-Atom c.in_default.not-Mark)))))
+    (omega (arith, c.decreases, m, ap length n1), (c.requires.low, (P, operator c.in_ok-token.token c.in_default.not-Atom c.in_default.not-Mark)))
 
 pub operand-returns-in-Open : goal.operand-returns-in-Open
 operand-returns-in-Open t c =
@@ -236,10 +237,6 @@ expression-loop-op-init t c =
     let m0 = c.in_ok-part.ensures.moved in
     (refl, refl, omega arith, omega (arith, ap length n0), λ p x. x)
 
-pub expression-infix-requires : goal.expression-infix-requires
-expression-infix-requires t c =
-    c.loop-op.invariant.3
-
 pub expression-returns-in_err-op : goal.expression-returns-in_err-op
 expression-returns-in_err-op t c =
     let T0 = c.operand.ensures.text in
@@ -273,7 +270,7 @@ expression-returns-in_err-right t c =
     let n2 = ap (λ y. y.now) T2 in
     let D2 = c.infix.ensures.depth ∙ D1 in
     let p = err_from_is_err_and c.from_residual-in_err-right.result c.from_residual-in_err-right.ensures.1 in
-    rw (p.1, p.2) (record { text = c.expression.ensures.text ∙ T2; depth = tt; moved = tt; read = into _ (infix-leads _ op x M.1 f.3 c.requires.depth) (nested _ (right c.args.min op x.tree) _ (moved_at c.levels_of-levels.ensures.right (moved-err n2 M.2 D2 c.in_err-right.ensures.read))) })
+    rw (p.1, p.2) (record { text = c.expression.ensures.text ∙ T2; depth = tt; moved = tt; read = into _ (infix-leads _ op x M.1 f.3 c.args.self.now.within_limit) (nested _ (right c.args.min op x.tree) _ (moved_at (ap (λ x. x.right) c.levels_of-levels.ensures) (moved-err n2 M.2 D2 c.in_err-right.ensures.read))) })
 
 pub expression-expression-requires : goal.expression-expression-requires
 expression-expression-requires t c =
@@ -286,7 +283,7 @@ expression-expression-requires t c =
     let n1 = ap (λ x. x.now) i.0 in
     let n2 = ap (λ x. x.now) c.infix.ensures.text in
     let D2 = c.infix.ensures.depth ∙ i.1 in
-    (omega (arith, c.decreases, f.4, ap length n0, ap length n1, ap length n2, c.infix.ensures.high), (omega (arith, c.infix.ensures.high, ap length n2), (omega (arith, D2, D0, c.requires.depth), omega (arith, c.levels_of-levels.ensures.right, right-low op))))
+    (omega (arith, c.decreases, f.4, ap length n0, ap length n1, ap length n2, c.infix.ensures.high), omega (arith, ap (λ x. x.right) c.levels_of-levels.ensures, right-low op))
 
 pub expression-loop-op-smaller : goal.expression-loop-op-smaller
 expression-loop-op-smaller t c =
@@ -317,13 +314,13 @@ expression-loop-op-preserved t c =
     let m1 = c.in_ok-right.ensures.moved in
     let n3 = ap (λ x. x.now) c.expression.ensures.text in
     let M = moved-marked c.operand.new.self.text.now _ c.loop-op.self.place c.infix.new.self.place (word.Infix op) n1 (f.0, f.1, f.2) in
-    let Y = moved-level c.levels_of-levels.ensures.right (moved_ok (n2 ∙ n1) M.2 D2 c.in_ok-right.ensures.read) in
-    let deep : c.operand.new.self.depth ≤ 16 = omega (arith, D0, c.requires.depth) in (
+    let Y = moved-level (ap (λ x. x.right) c.levels_of-levels.ensures) (moved_ok (n2 ∙ n1) M.2 D2 c.in_ok-right.ensures.read) in
+    let deep : c.operand.new.self.depth ≤ 16 = omega (arith, D0, c.args.self.now.within_limit) in (
       c.expression.ensures.text ∙ c.infix.ensures.text ∙ i.0,
       c.in_ok-right.ensures.depth ∙ D2,
       omega (arith, f.4),
       omega (arith, ap length n3),
-      λ p z. ends_at refl (sym c.levels_of-levels.ensures.own) (infix-read _ op (i.4 p z) M.1 f.3 deep Y.0 Y.1),
+      λ p z. ends_at refl (sym (ap (λ x. x.own) c.levels_of-levels.ensures)) (infix-read _ op (i.4 p z) M.1 f.3 deep Y.0 Y.1),
     )
 
 pub expression-returns : goal.expression-returns

@@ -1,6 +1,6 @@
 use Rattle.std.proofs.Common.{◌≡◌, ℕ, ◌+◌, ◌-◌, ◌*◌, ◌≤◌, length}
 use Rattle.syntax.specs.Reading.{Expression}
-use Rattle.syntax.proofs.reader.Reader.+bracket_choice_expression_operand_prefix.Given as goal
+use Rattle.syntax.proofs.reader.Reader.+expression.Given as goal
 
 abbrev pub decreases-operand : goal.decreases-operand
 decreases-operand l = 3 * (length l.self.now.text.now - l.self.now.place)

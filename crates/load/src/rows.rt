@@ -1,7 +1,7 @@
 //! The rows of a text, by their numbers.
 
 ghost use Rattle.std.specs.Prelude.{◌≡◌, ◌+◌, ◌<◌, ◌≤◌, length, take};
-ghost use Rattle.load.specs.Rows.{operand_row, prefix_row, infix_row, node_row, equation_rows, table_rows};
+ghost use Rattle.load.specs.Rows.{operand_row, prefix_row, infix_row, node_row, nodes_of, table_rows};
 
 use crate::heads::find;
 use crate::sizes::ROWS;
@@ -16,10 +16,7 @@ fn row_of(equations: &[Equation], count: usize, operand: Operand) -> u8
     ensures { result ≡ operand_row equations.now count operand }
 {
     match operand {
-        Operand::Name(name, _) => match find(equations, name) {
-            Some(row) => row as u8,
-            None => 0,
-        },
+        Operand::Name(name, _) => find(equations, name).unwrap_or(0) as u8,
         Operand::Row(number) => {
             let row = equations.len() + number as usize;
             if row < count { row as u8 } else { 0 }
@@ -85,28 +82,28 @@ fn node_row(equations: &[Equation], count: usize, node: Node) -> Row
     }
 }
 
-/// The equations' own rows, in a table of `count` rows.
-fn equation_rows(equations: &[Equation], count: usize) -> [Row; ROWS]
-    requires equations { length equations.now ≤ 64 }
-    requires count { count ≤ 64 }
-    ensures { take (length equations.now) result ≡ equation_rows equations.now count equations.now }
+/// The nodes of all rows: the equations' own, and then the operands'; what is past them is no row.
+pub(crate) fn nodes_of(equations: &[Equation], operands: &[Node]) -> [Node; ROWS]
+    requires { length equations.now + length operands.now ≤ 64 }
+    ensures { take (length equations.now + length operands.now) result ≡ nodes_of equations.now operands.now }
 {
-    let mut rows = [Row::Literal(0); ROWS];
+    let mut nodes = [Node::Literal(0); ROWS];
     for (k, equation) in equations.iter().enumerate() {
-        rows[k] = node_row(equations, count, equation.node);
+        nodes[k] = equation.node;
     }
-    rows
+    nodes[equations.len()..equations.len() + operands.len()].copy_from_slice(operands);
+    nodes
 }
 
-/// All rows: the equations' own, and then the operands'.
-pub(crate) fn table_rows(equations: &[Equation], operands: &[Node]) -> [Row; ROWS]
-    requires { length equations.now + length operands.now ≤ 64 }
-    ensures { take (length equations.now + length operands.now) result ≡ table_rows equations.now operands.now }
+/// The rows of the nodes; what is past them is no row.
+pub(crate) fn table_rows(equations: &[Equation], nodes: &[Node]) -> [Row; ROWS]
+    requires equations { length equations.now ≤ 64 }
+    requires nodes { length nodes.now ≤ 64 }
+    ensures { take (length nodes.now) result ≡ table_rows equations.now nodes.now }
 {
-    let count = equations.len() + operands.len();
-    let mut rows = equation_rows(equations, count);
-    for (k, node) in operands.iter().enumerate() {
-        rows[equations.len() + k] = node_row(equations, count, *node);
+    let mut rows = [Row::Literal(0); ROWS];
+    for (k, node) in nodes.iter().enumerate() {
+        rows[k] = node_row(equations, nodes.len(), *node);
     }
     rows
 }

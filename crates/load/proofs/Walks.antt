@@ -32,16 +32,3 @@ module _ (room rows : ℕ) (es : List Equation) (k : ℕ) (d : Equation) (h : k 
 
 pub counted_none : (room rows : ℕ) (es : List Equation) (k : ℕ) → length es ≤ k → Ok rows ≡ counted room rows (drop k es)
 counted_none room rows es k h = sym (at_drop_all (counted room rows) es k h)
-
--- One node more, where rows and nodes are filled in turn.
-pub filled_more : {X Y : Type 0} (f : X → Y) (xs : List X) (k : ℕ) (d : X) (ys : List Y) (y : Y) → k < length xs → k < length ys → take k ys ≡ map f (take k xs) → y ≡ f (get_or xs k d) → take (k + 1) (set ys k y) ≡ map f (take (k + 1) xs)
-filled_more f xs k d ys y h l e g =
-    take_more_set ys k y l
-    ∙ ap (λ t. t ++ y ∷ []) e
-    ∙ ap (λ z. map f (take k xs) ++ z ∷ []) g
-    ∙ sym (map_more f xs k d h)
-
-pub all_filled : {X Y : Type 0} (f : X → Y) (xs : List X) (k : ℕ) (ys : List Y) → k ≤ length xs → length xs ≤ k → take k ys ≡ map f (take k xs) → take (length xs) ys ≡ map f xs
-all_filled f xs k ys g h e =
-    let n : length xs ≡ k = omega arith in
-    ap (λ m. take m ys) n ∙ e ∙ ap (map f) (take_all k xs h)

@@ -10,7 +10,7 @@ use Rattle.grammar.specs.Machine.{Spot, due, and_then, takes, go_on, is, State, 
 use Rattle.syntax.specs.declared.refusal.Refusal.{Refusal}
 use Rattle.lexer.specs.Lexer.{skip, scan, a_word, not_a_word}
 use Rattle.syntax.specs.declared.refusal.Refusal.TheVariants.{NoWord, Unexpected}
-use Rattle.syntax.specs.Reading.{Marked, Kept, Turned, none, wrong as wrong_word, AnotherRead, opened, opened_by, Expression, Whole, Missing, halted, other_word, Lies, Halt, bad, over, Stuck, no_word as stuck-word, no_such, too_deep as stuck-deep, Broken}
+use Rattle.syntax.specs.Reading.{Marked, Turned, none, wrong as wrong_word, AnotherRead, opened, opened_by, Expression, Whole, Missing, halted, other_word, Lies, Halt, bad, over, Stuck, no_word as stuck-word, no_such, too_deep as stuck-deep, Broken}
 use Rattle.syntax.specs.Judgement.{Way, Due, Ended, HeaderRead, EquationRead, Wrong, no_word, too_short, no_text, too_deep, Refused, Accepted}
 use Rattle.grammar.proofs.Parts.{some_is}
 use Rattle.grammar.proofs.Complete.{along, not-viable, run-append}
@@ -177,10 +177,6 @@ module _ (bs : List ℕ) where
   pub header-end : {A : Type 0} (p q : ℕ) → Way bs (header (Where ∷ [])) p 0 → (r : Result A Refusal) → Marked bs p q Where r → HeaderRead bs q r
   header-end p q v (Ok u) k = record { read = []; way = mark-way Where v k refl refl (omega arith) }
   header-end p q v (Err r) k = header-missing Where [] v k
-
-pub kept-all : {A : Type 0} (d c : ℕ) (r : Result A Refusal) → c ≡ d → Kept d c r
-kept-all d c (Ok u) e = e
-kept-all d c (Err r) e = tt
 
 pub moved-another : (bs bs' : List ℕ) (p q : ℕ) (r : Result Bool Refusal) → bs' ≡ bs → AnotherRead bs' p q r → AnotherRead bs p q r
 moved-another bs bs' p q r e h = subst (λ b. AnotherRead b p q r) e h

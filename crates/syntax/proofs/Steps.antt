@@ -22,7 +22,7 @@ use Rattle.syntax.specs.declared.refusal.Refusal.{Refusal}
 use Rattle.syntax.specs.declared.refusal.Refusal.TheVariants.{NoWord, Unexpected, TooDeep}
 use Rattle.lexer.specs.Lexer.{skip, scan, a_word, not_a_word}
 use Rattle.grammar.specs.Machine.{as_prefix}
-use Rattle.syntax.specs.Reading.{Peeked, opened_by, opened, Lies, Halt, bad, over, Missing, halted, other_word, Expression, Whole, Stuck, no_word, no_such, too_deep, Broken, Begins, OperandRead, Moved, Kept}
+use Rattle.syntax.specs.Reading.{Peeked, opened_by, opened, Lies, Halt, bad, over, Missing, halted, other_word, Expression, Whole, Stuck, no_word, no_such, too_deep, Broken, Begins, OperandRead}
 use Rattle.grammar.proofs.Parts.{refit, taken}
 use Rattle.grammar.proofs.Complete.{mark-stops, along, run-append, begins, infix-left}
 
@@ -268,19 +268,12 @@ module _ (bs : List ℕ) where
     stuck = λ es a fs. no_word (bad h);
   }
 
-  -- the next word and what it is not
-  pub whole-none : {n q l e : ℕ} {w : Token} → scan bs q ≡ Ok (Some (a_word w e)) → takes n l w ≡ None → Whole bs n q l
-  whole-none {n} {q} {l} {e} {w} h k = record { none = λ v g i. ap (takes n l) (sym (same_word h i).0) ∙ k }
+-- The same at an equal text and place, as the code has them.
+pub moved_ok : {bs bs' : List ℕ} {n p p' d q l : ℕ} → bs' ≡ bs → p' ≡ p → Expression bs' n p' d q l × Whole bs' n q l → Expression bs n p d q l × Whole bs n q l
+moved_ok {bs} {bs'} {n} {p} {p'} {d} {q} {l} e f h = subst (λ b. Expression b n p d q l × Whole b n q l) e (subst (λ y. Expression bs' n y d q l × Whole bs' n q l) f h)
 
-  pub whole-end : {n q l : ℕ} → scan bs q ≡ Ok None → Whole bs n q l
-  whole-end h = record { none = λ v g i. cc }
-
--- The same at an equal text, place and depth, as the code has them.
-pub moved_ok : {bs bs' : List ℕ} {n p p' d d' q l : ℕ} → bs' ≡ bs → p' ≡ p → d' ≡ d → Expression bs' n p' d' q l × Whole bs' n q l → Expression bs n p d q l × Whole bs n q l
-moved_ok {bs} {bs'} {n} {p} {p'} {d} {d'} {q} {l} e f g h = subst (λ b. Expression b n p d q l × Whole b n q l) e (subst (λ y. Expression bs' n y d q l × Whole bs' n q l) f (subst (λ z. Expression bs' n p' z q l × Whole bs' n q l) g h))
-
-pub moved-err : {bs bs' : List ℕ} {x : List Frame → Spot} {p p' d d' : ℕ} {r : Refusal} → bs' ≡ bs → p' ≡ p → d' ≡ d → Broken bs' x p' d' r → Broken bs x p d r
-moved-err {bs} {bs'} {x} {p} {p'} {d} {d'} {r} e f g h = subst (λ b. Broken b x p d r) e (subst (λ y. Broken bs' x y d r) f (subst (λ z. Broken bs' x p' z r) g h))
+pub moved-err : {bs bs' : List ℕ} {x : List Frame → Spot} {p p' d : ℕ} {r : Refusal} → bs' ≡ bs → p' ≡ p → Broken bs' x p' d r → Broken bs x p d r
+moved-err {bs} {bs'} {x} {p} {p'} {d} {r} e f h = subst (λ b. Broken b x p d r) e (subst (λ y. Broken bs' x y d r) f h)
 
 -- a word that begins no expression of level n
 pub no-mark-begins : (n : ℕ) (m : Mark) (fs : List Frame) → (m ≡ Open → ⊥) → (m ≡ If → ⊥) → begin fs n (word.Mark m) ≡ None
@@ -351,9 +344,6 @@ moved-level {bs} {n} {n'} {p} {d} {q} {l} e h = subst (λ x. Expression bs x p d
 pub moved_at : {bs : List ℕ} {n n' p d : ℕ} {r : Refusal} → n' ≡ n → Broken bs (λ fs. due fs n') p d r → Broken bs (λ fs. due fs n) p d r
 moved_at {bs} {n} {n'} {p} {d} {r} e h = subst (λ x. Broken bs (λ fs. due fs x) p d r) e h
 
-pub moved-x : {bs bs' : List ℕ} {n p d d' q l : ℕ} → bs' ≡ bs → d' ≡ d → Expression bs' n p d' q l → Expression bs n p d q l
-moved-x {bs} {bs'} {n} {p} {d} {d'} {q} {l} e g h = subst (λ b. Expression b n p d q l) e (subst (λ z. Expression bs' n p z q l) g h)
-
 pub ends_at : {bs : List ℕ} {n p d q q' l l' : ℕ} → q' ≡ q → l ≡ l' → Expression bs n p d q l → Expression bs n p d q' l'
 ends_at {bs} {n} {p} {d} {q} {q'} {l} {l'} e f h = subst (λ y. Expression bs n p d y l') (sym e) (subst (λ y. Expression bs n p d q y) f h)
 
@@ -369,12 +359,5 @@ moved-whole {bs} {bs'} {n} {q} {q'} {l} e f h = subst (λ b. Whole b n q' l) e (
 pub no-word-is : {bs : List ℕ} {x : List Frame → Spot} {p d q : ℕ} {r : Refusal} → r ≡ NoWord q → Broken bs x p d (NoWord q) → Broken bs x p d r
 no-word-is {bs} {x} {p} {d} e h = subst (λ r. Broken bs x p d r) (sym e) h
 
-pub moved-operand : (bs bs' : List ℕ) (n p d d' q : ℕ) (r : Result Part Refusal) → bs' ≡ bs → d' ≡ d → OperandRead bs' n p d' q r → OperandRead bs n p d q r
-moved-operand bs bs' n p d d' q r e g h = subst (λ b. OperandRead b n p d q r) e (subst (λ z. OperandRead bs' n p z q r) g h)
-
-pub moved-kept : {A : Type 0} (d d' c : ℕ) (r : Result A Refusal) → d' ≡ d → Kept d' c r → Kept d c r
-moved-kept d d' c r e h = subst (λ z. Kept z c r) e h
-
-pub moved_more : {A : Type 0} (n n' p p' q : ℕ) (r : Result A Refusal) → n' ≡ n → p ≤ p' → Moved n' p' q r → Moved n p q r
-moved_more n n' p p' q (Ok u) e l h = (omega arith, omega arith)
-moved_more n n' p p' q (Err r) e l h = tt
+pub moved-operand : (bs bs' : List ℕ) (n p d q : ℕ) (r : Result Part Refusal) → bs' ≡ bs → OperandRead bs' n p d q r → OperandRead bs n p d q r
+moved-operand bs bs' n p d q r e h = subst (λ b. OperandRead b n p d q r) e h

@@ -132,11 +132,6 @@ abbrev pub Moved : {A : Type 0} → ℕ → ℕ → ℕ → Result A Refusal →
 Moved long p q (Ok x) = (p < q) × (q ≤ long)
 Moved long p q (Err r) = Unit {0}
 
--- As many brackets are open as before.
-abbrev pub Kept : {A : Type 0} → ℕ → ℕ → Result A Refusal → Type 0
-Kept d c (Ok x) = c ≡ d
-Kept d c (Err r) = Unit {0}
-
 -- No word stands at p, or one that the test turns down.
 pub data Turned (bs : List ℕ) (p : ℕ) (test : Token → Type 0) : Refusal → Type 0 where
   none : {r : Refusal} → Halt bs p r → Turned bs p test r

@@ -11,7 +11,7 @@ use Rattle.syntax.specs.declared.refusal.Refusal.{Refusal}
 use Rattle.lexer.specs.Lexer.{skip, scan, a_word, not_a_word}
 use Rattle.syntax.specs.declared.refusal.Refusal.TheVariants.{NoWord, Unexpected}
 use Rattle.syntax.specs.Reading.{Marked, Turned, none, wrong as wrong_word, AnotherRead, opened, opened_by, Expression, Whole, Missing, halted, other_word, Lies, Halt, bad, over, Stuck, no_word as stuck-word, no_such, too_deep as stuck-deep, Broken}
-use Rattle.syntax.specs.Judgement.{Way, Due, Ended, HeaderRead, EquationRead, Wrong, no_word, too_short, no_text, too_deep, Refused, Accepted}
+use Rattle.syntax.specs.Judgement.{Way, HeaderRead, EquationRead, Wrong, no_word, too_short, no_text, too_deep, Refused, Accepted}
 use Rattle.grammar.proofs.Parts.{some_is}
 use Rattle.grammar.proofs.Complete.{along, not-viable, run-append}
 use Rattle.grammar.proofs.Exact.{lives-viable, text-ends, decides}
@@ -186,21 +186,3 @@ moved-mark bs bs' p q m r e h = subst (λ b. Marked b p q m r) e h
 
 pub moved-refused : {bs bs' : List ℕ} {r : Refusal} → bs' ≡ bs → Refused bs' r → Refused bs r
 moved-refused {r = r} e h = subst (λ b. Refused b r) e h
-
-pub moved-due : {bs bs' : List ℕ} {q : ℕ} → bs' ≡ bs → Due bs' q → Due bs q
-moved-due {q = q} e h = subst (λ b. Due b q) e h
-
-pub moved-ended : {bs bs' : List ℕ} {q : ℕ} → bs' ≡ bs → Ended bs' q → Ended bs q
-moved-ended {q = q} e h = subst (λ b. Ended b q) e h
-
--- what the answer on another equation says
-pub again-due : (bs bs' : List ℕ) (q : ℕ) (b : Bool) → bs' ≡ bs → b ≡ true → EquationRead bs' q (Ok b) → Due bs q
-again-due bs bs' q true e t h = moved-due e h
-again-due bs bs' q false e t h = cc
-
-pub last-ended : (bs bs' : List ℕ) (q : ℕ) (b : Bool) → bs' ≡ bs → b ≡ false → EquationRead bs' q (Ok b) → Ended bs q
-last-ended bs bs' q false e t h = moved-ended e h
-last-ended bs bs' q true e t h = cc
-
-pub moved-accepted : {bs bs' : List ℕ} → bs' ≡ bs → Accepted bs' → Accepted bs
-moved-accepted e h = subst (λ b. Accepted b) e h

@@ -12,28 +12,20 @@ use Rattle.lexer.specs.declared.token.Token.{Token}
 use Rattle.lexer.specs.declared.token.Token.TheVariants as word
 use Rattle.grammar.specs.Grammar.{levels, prefix_level, choice_level, Tree, leaf, bracket, prefix, infix', choice, level_of, Fits, symbol, words, Equation}
 use Rattle.grammar.specs.Machine.{Frame, group, operand, right, test, branch, other, Spot, due, read, and_then, takes, go_on, is, close, minus, begin_prefix, begin, advance, State, inside, whole, whole_at, end_equation, enter, run, Stops}
-use Rattle.std.specs.Prelude.{MatchResult, ok_or}
-use Rattle.std.specs.Result.{IsErrAnd}
-use Rattle.std.proofs.lemmas.Result.{err_from_is_err_and}
+use Rattle.std.specs.Prelude.{ok_or}
 use Rattle.lexer.specs.declared.lexer.NotAWord.{NotAWord}
 use Rattle.lexer.specs.declared.lexer.Word.{Word}
-use Rattle.syntax.specs.declared.reader.Part.{Part}
 use Rattle.syntax.specs.declared.refusal.Refusal.{Refusal}
 use Rattle.syntax.specs.declared.refusal.Refusal.TheVariants.{NoWord, Unexpected, TooDeep}
 use Rattle.lexer.specs.Lexer.{skip, scan, a_word, not_a_word}
 use Rattle.grammar.specs.Machine.{as_prefix}
-use Rattle.syntax.specs.Reading.{Peeked, opened_by, opened, Lies, Halt, bad, over, Missing, halted, other_word, Expression, Whole, Stuck, no_word, no_such, too_deep, Broken, Begins, OperandRead}
+use Rattle.syntax.specs.Reading.{opened_by, opened, Lies, Halt, bad, over, Missing, halted, other_word, Expression, Whole, Stuck, no_word, no_such, too_deep, Broken, Begins}
 use Rattle.grammar.proofs.Parts.{refit, taken}
 use Rattle.grammar.proofs.Complete.{mark-stops, along, run-append, begins, infix-left}
 
 -- Two words found at one place are the same, and end at the same place.
 pub same_word : {w v : Token} {e g : ℕ} {found : Result (Option Word) NotAWord} → found ≡ Ok (Some (a_word w e)) → found ≡ Ok (Some (a_word v g)) → (w ≡ v) × (e ≡ g)
 same_word {w} {v} {e} {g} h k = let s : a_word w e ≡ a_word v g = cc in (ap (λ (x : Word). x.token) s, ap (λ (x : Word). x.end) s)
-
--- What was looked at, where what is no word is refused.
-pub peeked : {Q : NotAWord → Refusal → Type 0} (bs : List ℕ) (p : ℕ) (found : Result (Option Word) NotAWord) (r : Result (Option Word) Refusal) → found ≡ scan bs p → ((e : NotAWord) (f : Refusal) → Q e f → f ≡ NoWord p) → MatchResult found (λ x. r ≡ Ok x) (λ e. IsErrAnd r (Q e)) → Peeked bs p r
-peeked bs p (Ok found) r e told m = subst (Peeked bs p) (sym m) (sym e)
-peeked bs p (Err n) r e told m = let k = err_from_is_err_and r m in subst (Peeked bs p) (sym k.1) (told n k.0 k.2, sym e)
 
 pub halted_bad : {bs : List ℕ} {p : ℕ} {r : Refusal} → (r ≡ NoWord p) × (scan bs p ≡ Err not_a_word) → Halt bs p r
 halted_bad {bs} {p} h = subst (Halt bs p) (sym h.0) (bad h.1)
@@ -353,11 +345,5 @@ moved-missing {q = q} {m = m} {r = r} e h = subst (λ b. Missing b q m r) e h
 pub moved-marked : (bs bs' : List ℕ) (q q' : ℕ) (w : Token) → bs' ≡ bs → (e : ℕ) × (scan bs' q ≡ Ok (Some (a_word w e))) × (q' ≡ skip bs' e) → (e : ℕ) × (scan bs q ≡ Ok (Some (a_word w e))) × (q' ≡ skip bs e)
 moved-marked bs bs' q q' w e h = subst (λ b. (g : ℕ) × (scan b q ≡ Ok (Some (a_word w g))) × (q' ≡ skip b g)) e h
 
-pub moved-whole : {bs bs' : List ℕ} {n q q' l : ℕ} → bs' ≡ bs → q ≡ q' → Whole bs' n q l → Whole bs n q' l
-moved-whole {bs} {bs'} {n} {q} {q'} {l} e f h = subst (λ b. Whole b n q' l) e (subst (λ y. Whole bs' n y l) f h)
-
 pub no-word-is : {bs : List ℕ} {x : List Frame → Spot} {p d q : ℕ} {r : Refusal} → r ≡ NoWord q → Broken bs x p d (NoWord q) → Broken bs x p d r
 no-word-is {bs} {x} {p} {d} e h = subst (λ r. Broken bs x p d r) (sym e) h
-
-pub moved-operand : (bs bs' : List ℕ) (n p d q : ℕ) (r : Result Part Refusal) → bs' ≡ bs → OperandRead bs' n p d q r → OperandRead bs n p d q r
-moved-operand bs bs' n p d q r e h = subst (λ b. OperandRead b n p d q r) e h

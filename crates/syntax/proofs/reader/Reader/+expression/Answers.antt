@@ -1,11 +1,11 @@
 use Rattle.std.proofs.Common.{◌≤◌, length, Ok, sym, refl, ap, ◌∙◌, subst, arith, Some}
 use Rattle.std.proofs.lemmas.Result.{err_from_is_err_and}
 use Rattle.lexer.specs.declared.token.Token.TheVariants as word
-use Rattle.lexer.specs.declared.token.Mark.TheVariants.{Open, Close, If, Then, Else}
+use Rattle.lexer.specs.declared.token.Mark.TheVariants.{Close, Then, Else}
 use Rattle.lexer.specs.Lexer.{scan, a_word}
 use Rattle.grammar.specs.Machine.{group, test, branch, other, operand, right}
 use Rattle.syntax.specs.Reading.{InfixRead}
-use Rattle.syntax.proofs.Steps.{leads-then, into, nested, no-first, refused-first, atom-read, deep-first, open-leads, if-leads, then-leads, else-leads, no-close, no-then, no-else, group-read, choice-read, prefix-leads, prefix-read, infix-leads, infix-read, no-word-after, moved_ok, moved-err, no-mark-begins, no-if-begins, operator, no-prefix-begins, low-prefix-begins, prefix-word, moved-level, moved_at, ends_at, moved-missing, moved-marked, moved-whole, no-word-is, none_there, moved-operand}
+use Rattle.syntax.proofs.Steps.{leads-then, into, nested, no-first, refused-first, atom-read, deep-first, open-leads, if-leads, then-leads, else-leads, no-close, no-then, no-else, group-read, choice-read, prefix-leads, prefix-read, infix-leads, infix-read, no-word-after, moved_ok, moved-err, no-mark-begins, no-if-begins, no-prefix-begins, low-prefix-begins, prefix-word, moved-level, moved_at, ends_at, moved-missing, moved-marked, no-word-is, none_there}
 use Rattle.syntax.proofs.reader.Reader.+expression.Goals as goal
 
 pub bracket-returns-then-context-ge-LIMIT-clause-read : goal.bracket-returns-then-context-ge-LIMIT-clause-read
@@ -154,42 +154,6 @@ operand-returns-in_default-mark-clause-read t c =
     let k = c.in_ok-token.ensures.took in
     refused-first _ (k.1 ∙ ap (λ v. Ok (Some (a_word v k.0))) c.in-Mark.is) (λ fs. no-mark-begins c.args.context.level c.in-Mark.mark fs c.in_default-mark.not-Open c.in_default-mark.not-If)
 
-pub operand-bracket-requires : goal.operand-bracket-requires
-operand-bracket-requires t c =
-    let k = c.in_ok-token.ensures.took in
-    let m = c.in_ok-token.ensures.moved in
-    let n1 = ap (λ x. x.now) c.word.ensures.text in
-    let P = moved-marked c.word.new.self.text.now c.args.self.now.text.now c.args.self.now.place c.word.new.self.place (word.Mark Open) (sym n1) (k.0, k.1 ∙ ap (λ v. Ok (Some (a_word v k.0))) (c.in-Mark.is ∙ ap word.Mark c.in-Open.is), k.2) in
-    (omega (arith, c.decreases, m, ap length n1), P)
-
-pub operand-choice-requires : goal.operand-choice-requires
-operand-choice-requires t c =
-    let k = c.in_ok-token.ensures.took in
-    let m = c.in_ok-token.ensures.moved in
-    let n1 = ap (λ x. x.now) c.word.ensures.text in
-    let P = moved-marked c.word.new.self.text.now c.args.self.now.text.now c.args.self.now.place c.word.new.self.place (word.Mark If) (sym n1) (k.0, k.1 ∙ ap (λ v. Ok (Some (a_word v k.0))) (c.in-Mark.is ∙ ap word.Mark c.in-If.is), k.2) in
-    (omega (arith, c.decreases, m, ap length n1), P)
-
-pub operand-prefix-requires : goal.operand-prefix-requires
-operand-prefix-requires t c =
-    let k = c.in_ok-token.ensures.took in
-    let m = c.in_ok-token.ensures.moved in
-    let n1 = ap (λ x. x.now) c.word.ensures.text in
-    let P = moved-marked c.word.new.self.text.now c.args.self.now.text.now c.args.self.now.place c.word.new.self.place c.in_ok-token.token (sym n1) k in
-    (omega (arith, c.decreases, m, ap length n1), (P, operator c.in_ok-token.token c.in_default.not-Atom c.in_default.not-Mark))
-
-pub operand-returns-in-Open-clause-read : goal.operand-returns-in-Open-clause-read
-operand-returns-in-Open-clause-read t c =
-    moved-operand _ _ c.args.context.level c.args.self.now.place c.args.context.depth c.bracket.new.self.place c.bracket.result (ap (λ x. x.now) c.word.ensures.text) c.bracket.ensures.read
-
-pub operand-returns-in-If-clause-read : goal.operand-returns-in-If-clause-read
-operand-returns-in-If-clause-read t c =
-    moved-operand _ _ c.args.context.level c.args.self.now.place c.args.context.depth c.choice.new.self.place c.choice.result (ap (λ x. x.now) c.word.ensures.text) c.choice.ensures.read
-
-pub operand-returns-in_default-clause-read : goal.operand-returns-in_default-clause-read
-operand-returns-in_default-clause-read t c =
-    moved-operand _ _ c.args.context.level c.args.self.now.place c.args.context.depth c.prefix.new.self.place c.prefix.result (ap (λ x. x.now) c.word.ensures.text) c.prefix.ensures.read
-
 pub expression-returns-in_err-op-clause-read : goal.expression-returns-in_err-op-clause-read
 expression-returns-in_err-op-clause-read t c =
     let i = c.loop-op.invariant in
@@ -207,18 +171,6 @@ expression-returns-in_err-right-clause-read t c =
     let p = err_from_is_err_and c.from_residual-in_err-right.result c.from_residual-in_err-right.ensures.1 in
     rw (p.1, p.2) (into _ (infix-leads _ op i.read M.1 f.3 c.args.context.within_limit) (nested _ (right c.args.context.level op i.read.tree) _ (moved_at (ap (λ x. x.right) c.levels_of-levels.ensures) (moved-err n M.2 c.in_err-right.ensures.read))))
 
-pub expression-expression-requires : goal.expression-expression-requires
-expression-expression-requires t c =
-    let i = c.loop-op.invariant in
-    let f = subst (λ o. InfixRead c.loop-op.self.text.now c.args.context.level c.loop-op.part.level c.loop-op.self.place c.infix.new.self.place (Ok o)) c.in-Some.is c.in_ok-op.ensures.read in
-    omega (arith, c.decreases, f.4, ap (λ x. length x.now) i.text, ap (λ x. length x.now) c.infix.ensures.text, c.infix.ensures.high)
-
-pub expression-loop-op-smaller : goal.expression-loop-op-smaller
-expression-loop-op-smaller t c =
-    let f = subst (λ o. InfixRead c.loop-op.self.text.now c.args.context.level c.loop-op.part.level c.loop-op.self.place c.infix.new.self.place (Ok o)) c.in-Some.is c.in_ok-op.ensures.read in
-    let m = c.in_ok-right.ensures.moved in
-    omega (arith, f.4, ap (λ x. length x.now) c.infix.ensures.text, ap (λ x. length x.now) c.expression.ensures.text)
-
 pub expression-loop-op-preserved : goal.expression-loop-op-preserved
 expression-loop-op-preserved t c =
     let i = c.loop-op.invariant in
@@ -234,9 +186,3 @@ expression-loop-op-preserved t c =
       inside = omega (arith, ap (λ x. length x.now) c.expression.ensures.text);
       read = ends_at refl (sym (ap (λ x. x.own) c.levels_of-levels.ensures)) (infix-read _ op i.read M.1 f.3 c.args.context.within_limit Y.0 Y.1);
     }
-
-pub expression-returns : goal.expression-returns
-expression-returns t c =
-    let i = c.loop-op.invariant in
-    let f = subst (λ o. InfixRead c.loop-op.self.text.now c.args.context.level c.loop-op.part.level c.loop-op.self.place c.infix.new.self.place (Ok o)) c.in_default.is c.in_ok-op.ensures.read in
-    record { text = c.infix.ensures.text ∙ i.text; moved = (omega (arith, f.0), omega (arith, c.infix.ensures.high, ap (λ x. length x.now) i.text)); read = (ends_at (sym f.0) refl i.read, moved-whole (ap (λ x. x.now) i.text) f.0 f.1) }

@@ -1,9 +1,7 @@
-use denote.Enum.Bare.{same_true, same_false}
-use Rattle.std.proofs.Common.{Ok, Some, sym, ap, ◌∙◌, rules}
+use denote.Enum.Bare.{same_false}
+use Rattle.std.proofs.Common.{sym, ap, ◌∙◌}
 use Rattle.std.proofs.lemmas.Result.{err_from_is_err_and}
 use Rattle.lexer.specs.contracts.token.Mark.{the_type}
-use Rattle.lexer.specs.declared.token.Token.TheVariants.{Mark}
-use Rattle.lexer.specs.Lexer.{a_word}
 use Rattle.syntax.specs.Reading.{halted, other_word}
 use Rattle.grammar.specs.Machine.{is}
 use Rattle.grammar.proofs.Parts.{is-other, is-no-mark}
@@ -19,8 +17,3 @@ returns-else-eq-clause-marked c = other_word c.in_ok-found.ensures.took.1 (ap (i
 
 pub returns-in_default-clause-marked : goal.returns-in_default-clause-marked
 returns-in_default-clause-marked c = other_word c.in_ok-found.ensures.took.1 (is-no-mark _ _ c.in_default.not-Mark)
-
-pub returns-then-eq-clause-marked : goal.returns-then-eq-clause-marked
-returns-then-eq-clause-marked c =
-    let k = c.in_ok-found.ensures.took in
-    (k.0, k.1 ∙ ap (λ w. Ok (Some (a_word w k.0))) (c.in-Mark.is ∙ ap Mark (same_true the_type (search rules) _ _ (sym c.if-eq.ensures))), k.2)

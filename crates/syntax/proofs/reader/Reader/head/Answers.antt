@@ -17,8 +17,3 @@ returns-else-names-clause-read c =
 
 pub returns-in_default-clause-read : goal.returns-in_default-clause-read
 returns-in_default-clause-read c = wrong c.in_ok-atom.ensures.took.1 (not-head _ c.in_default.not-Atom)
-
-pub returns-then-names-clause-read : goal.returns-then-names-clause-read
-returns-then-names-clause-read c =
-    let k = c.in_ok-atom.ensures.took in
-    (k.0, k.1 ∙ ap (λ w. Ok (Some (a_word w k.0))) c.in-Atom.is, k.2, sym c.names.ensures ∙ c.if-names.true)

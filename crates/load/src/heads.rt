@@ -51,12 +51,10 @@ const RESULT: Name = Name {
     bytes: *b"result\0\0\0\0\0\0\0\0\0\0",
 };
 
-/// The row of `result`; without one the text is refused at its `end`.
-pub(crate) fn find_result(equations: &[Equation], end: usize) -> Result<u8, Refusal>
-    requires { length equations.now ≤ 64 }
+/// The number of the equation of `result`; without one the text is refused at its `end`.
+pub(crate) fn find_result(equations: &[Equation], end: usize) -> Result<usize, Refusal>
     ensures value { result ≡ or_none end (found result_name equations.now) }
     ensures within { IfOk result (λ k. k < length equations.now) }
 {
-    let row = find(equations, RESULT).ok_or(Refusal::NoResult(end))?;
-    Ok(row as u8)
+    find(equations, RESULT).ok_or(Refusal::NoResult(end))
 }

@@ -24,5 +24,5 @@ pub fn load(text: &[u8]) -> Result<Table, Refusal>
     let nodes = &nodes[..equations.len() + count];
     check_uses(equations, nodes)?;
     let rows = table_rows(equations, nodes);
-    check_rows(&rows[..nodes.len()], result).map_err(|_| Refusal::Ring)
+    check_rows(&rows[..nodes.len()], result as u8).map_err(|_| Refusal::Ring)
 }

@@ -9,21 +9,6 @@ use lexer::{Infix, Prefix};
 use reading::{Arithmetic, Relation, Row};
 use syntax::{Equation, Node, Operand};
 
-/// The row of an operand in a table of `count` rows.
-fn row_of(equations: &[Equation], count: usize, operand: Operand) -> u8
-    requires equations { length equations.now ≤ 64 }
-    requires count { count ≤ 64 }
-    ensures { result ≡ operand_row equations.now count operand }
-{
-    match operand {
-        Operand::Name(name, _) => find(equations, name).unwrap_or(0) as u8,
-        Operand::Row(number) => {
-            let row = equations.len() + number as usize;
-            if row < count { row as u8 } else { 0 }
-        }
-    }
-}
-
 /// The row of an operator before its operand.
 fn prefix_row(op: Prefix, x: u8) -> Row
     ensures { result ≡ prefix_row op x }
@@ -58,31 +43,51 @@ fn infix_row(op: Infix, x: u8, y: u8) -> Row
     }
 }
 
-/// The row of a node in a table of `count` rows.
-fn node_row(equations: &[Equation], count: usize, node: Node) -> Row
-    requires equations { length equations.now ≤ 64 }
-    requires count { count ≤ 64 }
-    ensures { result ≡ node_row equations.now count node }
-{
-    match node {
-        Node::Name(name, place) => Row::Same(row_of(equations, count, Operand::Name(name, place))),
-        Node::Channel(channel) => Row::Channel(channel),
-        Node::Literal(value) => Row::Literal(value),
-        Node::Truth(truth) => Row::Truth(truth),
-        Node::Prefix(op, a) => prefix_row(op, row_of(equations, count, a)),
-        Node::Infix(op, a, b) => {
-            let left = row_of(equations, count, a);
-            infix_row(op, left, row_of(equations, count, b))
+/// The equations of a table, and how many rows it has.
+#[derive(Clone, Copy)]
+struct Layout<'a> {
+    equations: &'a [Equation],
+    count: usize,
+    ghost few_equations: { length equations.now ≤ 64 },
+    ghost few_rows: { count ≤ 64 },
+}
+
+impl<'a> Layout<'a> {
+    /// The row of an operand.
+    fn operand_row(self, operand: Operand) -> u8
+        ensures { result ≡ operand_row self.entry.equations.now self.entry.count operand }
+    {
+        match operand {
+            Operand::Name(name, _) => find(self.equations, name).unwrap_or(0) as u8,
+            Operand::Row(number) => {
+                let row = self.equations.len() + number as usize;
+                if row < self.count { row as u8 } else { 0 }
+            }
         }
-        Node::Choice(a, b, c) => {
-            let test = row_of(equations, count, a);
-            let branch = row_of(equations, count, b);
-            Row::If(test, branch, row_of(equations, count, c))
+    }
+
+    /// The row of a node.
+    fn node_row(self, node: Node) -> Row
+        ensures { result ≡ node_row self.entry.equations.now self.entry.count node }
+    {
+        match node {
+            Node::Name(name, place) => Row::Same(self.operand_row(Operand::Name(name, place))),
+            Node::Channel(channel) => Row::Channel(channel),
+            Node::Literal(value) => Row::Literal(value),
+            Node::Truth(truth) => Row::Truth(truth),
+            Node::Prefix(op, a) => prefix_row(op, self.operand_row(a)),
+            Node::Infix(op, a, b) => infix_row(op, self.operand_row(a), self.operand_row(b)),
+            Node::Choice(a, b, c) => Row::If(
+                self.operand_row(a),
+                self.operand_row(b),
+                self.operand_row(c),
+            ),
         }
     }
 }
 
 /// The nodes of all rows: the equations' own, and then the operands'; what is past them is no row.
+// Here and below an array with its count beside it, and no `ArrayVec`: that asks for a default node and a default row.
 pub(crate) fn nodes_of(equations: &[Equation], operands: &[Node]) -> [Node; ROWS]
     requires { length equations.now + length operands.now ≤ 64 }
     ensures { take (length equations.now + length operands.now) result ≡ nodes_of equations.now operands.now }
@@ -101,9 +106,13 @@ pub(crate) fn table_rows(equations: &[Equation], nodes: &[Node]) -> [Row; ROWS]
     requires nodes { length nodes.now ≤ 64 }
     ensures { take (length nodes.now) result ≡ table_rows equations.now nodes.now }
 {
+    let layout = Layout {
+        equations,
+        count: nodes.len(),
+    };
     let mut rows = [Row::Literal(0); ROWS];
     for (k, node) in nodes.iter().enumerate() {
-        rows[k] = node_row(equations, nodes.len(), *node);
+        rows[k] = layout.node_row(*node);
     }
     rows
 }

@@ -1,11 +1,11 @@
-//! Finite binary64 numbers by their bits.
+//! Finite binary64 numbers.
 
-ghost use Rattle.std.specs.Prelude.{T, from_bits};
-ghost use Rattle.std.specs.Float.{float_is_finite, binary64};
+ghost use Rattle.std.specs.Prelude.{T};
+ghost use Rattle.std.specs.Float.{float_is_finite};
 
-/// The bits of a finite binary64 number.
-#[derive(Clone, Copy)]
+/// A finite binary64 number.
+#[derive(Clone, Copy, PartialEq, PartialOrd)]
 pub struct Finite {
-    pub bits: u64,
-    ghost number: { T (float_is_finite (from_bits binary64 bits)) },
+    pub value: f64,
+    ghost finite: { T (float_is_finite value) },
 }

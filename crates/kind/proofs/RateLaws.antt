@@ -1,14 +1,12 @@
--- Between a binary64 number and its bits, and what `calculated` answers for a quotient.
-use Rattle.std.proofs.Common.{◌≡◌, ℕ, Bool, true, false, cond, not, T, List, pos, Some, None, Ok, Err, sym, refl, ap, ◌∙◌, subst}
+-- Between a binary64 number and its bits.
+use Rattle.std.proofs.Common.{◌≡◌, ℕ, not, T, List, Some, None, Ok, Err, sym, ap, ◌∙◌, subst}
 use lib.Dec.{T_prop}
-use lib.Ieee.{Float, nan, inf, fin, binary64, of_bits, to_bits, of_fields, odd, fits, is_nan, eq, div}
+use lib.Ieee.{Float, nan, inf, fin, binary64, of_bits, to_bits, fits, is_nan}
 use lib.Ieee.Bits.{of_bits-to_bits}
 use Rattle.std.specs.Float.{float_is_finite}
-use Rattle.reading.specs.declared.faults.KindFault.TheVariants.{ZeroDivisor, OutOfRange}
-use Rattle.reading.specs.declared.rows.Arithmetic.{Arithmetic}
-use Rattle.reading.specs.declared.rows.Arithmetic.TheVariants.{Divide}
+use Rattle.reading.specs.declared.faults.KindFault.TheVariants.{OutOfRange}
 use Rattle.std.specs.Int.Digits.{number_from_digits}
-use Rattle.kind.specs.Rates.{stored, packed, calculated, word}
+use Rattle.kind.specs.Rates.{stored, packed, word}
 use Rattle.kind.proofs.Provided.{provided-yes, provided-no}
 
 pub finite-no-nan : (x : Float) → T (float_is_finite x) → T (not (is_nan x))
@@ -27,20 +25,6 @@ pub packed-out : (x : Float) → T (fits binary64 x) → (T (float_is_finite x) 
 packed-out x f far =
     sym (provided-no (float_is_finite (of_bits binary64 (to_bits binary64 x))) (λ h. Ok (stored (to_bits binary64 x) h)) (Err OutOfRange)
     (λ t. far (subst (λ (y : Float). T (float_is_finite y)) (of_bits-to_bits binary64 x f) t)))
-
-zero_bits : of_bits binary64 0 ≡ fin false 0 (pos 0)
-unfolding of_bits of_fields odd
-zero_bits = refl
-
-pub by_zero : (op : Arithmetic) (a b : Float) → op ≡ Divide → eq b (of_bits binary64 0) ≡ true → Err ZeroDivisor ≡ calculated op a b
-by_zero op a b e t =
-    subst (λ (o : Arithmetic). Err ZeroDivisor ≡ calculated o a b) (sym e)
-    (ap (λ (q : Bool). cond q (Err ZeroDivisor) (packed (div binary64 a b))) (sym t ∙ ap (eq b) zero_bits))
-
-pub by_number : (op : Arithmetic) (a b : Float) → op ≡ Divide → eq b (of_bits binary64 0) ≡ false → packed (div binary64 a b) ≡ calculated op a b
-by_number op a b e t =
-    subst (λ (o : Arithmetic). packed (div binary64 a b) ≡ calculated o a b) (sym e)
-    (ap (λ (q : Bool). cond q (Err ZeroDivisor) (packed (div binary64 a b))) (sym t ∙ ap (eq b) zero_bits))
 
 pub stored_same : (a b : ℕ) (t : T (float_is_finite (of_bits binary64 a))) (u : T (float_is_finite (of_bits binary64 b))) → a ≡ b → stored a t ≡ stored b u
 stored_same a b t u e =

@@ -1,7 +1,6 @@
 -- The kind of rates: the finite IEEE 754 binary64 numbers, and the truth values.
-use Rattle.std.specs.Prelude.{◌≡◌, ℕ, ◌^◌, ◌≤◌, min, Bool, false, cond, not, T, List, pos, Some, None, Ok, Err, Option, Result, from_bits, to_bits, refl, Float}
+use Rattle.std.specs.Prelude.{ℕ, ◌^◌, ◌≤◌, min, Bool, false, cond, T, List, pos, Some, None, Ok, Err, Option, Result, from_bits, to_bits, Float}
 use Rattle.std.proofs.Common.{sym, subst, arith}
-use Rattle.std.specs.Bool.{beq}
 use Rattle.std.specs.Float.Ieee.{neg, add, sub, mul, div, eq, ne, lt, le, of_int}
 use Rattle.std.specs.Float.Ieee.Back.{round_whole}
 use Rattle.std.specs.Float.Ieee.Bits.{of_bits-to_bits}
@@ -10,29 +9,27 @@ use Rattle.std.specs.Float.Ieee.Fits.{of_int-fits}
 use Rattle.std.specs.Float.{float_is_finite, nan, inf, fin, binary64}
 use Rattle.std.specs.Int.Digits.{number_from_digits}
 use Rattle.reading.specs.declared.faults.KindFault.{KindFault}
-use Rattle.reading.specs.declared.faults.KindFault.TheVariants.{WrongKind, ZeroDivisor, OutOfRange}
+use Rattle.reading.specs.declared.faults.KindFault.TheVariants.{ZeroDivisor, OutOfRange}
 use Rattle.reading.specs.declared.rows.Arithmetic.{Arithmetic}
 use Rattle.reading.specs.declared.rows.Arithmetic.TheVariants.{Add, Subtract, Multiply, Divide}
 use Rattle.reading.specs.declared.rows.Relation.{Relation}
 use Rattle.reading.specs.declared.rows.Relation.TheVariants.{Equal, Unequal, Less, AtMost, Greater, AtLeast}
-use Rattle.kind.specs.declared.rate.Rate.{Rate}
-use Rattle.kind.specs.declared.rate.Operand.{Operand}
+use Rattle.kind.specs.declared.finite.Finite.{Finite}
+use Rattle.kind.specs.declared.values.Value.{Value}
 use Rattle.kind.specs.Kinds.{Meaning, provided}
+use Rattle.kind.specs.Numbers.{Numbers}
+use Rattle.kind.specs.Values.{values}
 
--- The bits as a value, if they are those of a finite number.
-abbrev pub stored : (b : ℕ) → T (float_is_finite (from_bits binary64 b)) → Rate
-stored b t = Rate.Number (record { bits = b; number = t })
-
-abbrev pub unpacked : Rate → Operand
-unpacked (Rate.Number n) = Operand.Number (from_bits binary64 n.bits)
-unpacked (Rate.Truth b) = Operand.Truth b
+-- The bits as a rate, if they are those of a finite number.
+abbrev pub stored : (b : ℕ) → T (float_is_finite (from_bits binary64 b)) → Finite
+stored b t = record { bits = b; number = t }
 
 -- A result that is not finite is out of range. (A binary64 number is what its bits stand for.)
-abbrev pub packed : Float → Result Rate KindFault
+abbrev pub packed : Float → Result Finite KindFault
 packed x = provided (float_is_finite (from_bits binary64 (to_bits binary64 x))) (λ t. Ok (stored (to_bits binary64 x) t)) (Err OutOfRange)
 
 -- Each operation is rounded once. Both zeros are equal to zero.
-abbrev pub calculated : Arithmetic → Float → Float → Result Rate KindFault
+abbrev pub calculated : Arithmetic → Float → Float → Result Finite KindFault
 calculated Add a b = packed (add binary64 a b)
 calculated Subtract a b = packed (sub binary64 a b)
 calculated Multiply a b = packed (mul binary64 a b)
@@ -46,38 +43,8 @@ holds AtMost a b = le a b
 holds Greater a b = lt b a
 holds AtLeast a b = le b a
 
--- Of two truth values it can only be said whether they are the same.
-abbrev pub alike : Relation → Bool → Bool → Result Rate KindFault
-alike Equal p q = Ok (Rate.Truth (beq p q))
-alike Unequal p q = Ok (Rate.Truth (not (beq p q)))
-alike Less p q = Err WrongKind
-alike AtMost p q = Err WrongKind
-alike Greater p q = Err WrongKind
-alike AtLeast p q = Err WrongKind
-
-abbrev pub told : Rate → Option Bool
-told (Rate.Number n) = None
-told (Rate.Truth b) = Some b
-
--- The negative of a number has the other sign and the same size.
-abbrev pub flipped : Operand → Result Rate KindFault
-flipped (Operand.Number x) = packed (neg x)
-flipped (Operand.Truth b) = Err WrongKind
-
-abbrev pub computes : Arithmetic → Operand → Operand → Result Rate KindFault
-computes op (Operand.Number a) (Operand.Number b) = calculated op a b
-computes op (Operand.Number a) (Operand.Truth q) = Err WrongKind
-computes op (Operand.Truth p) (Operand.Number b) = Err WrongKind
-computes op (Operand.Truth p) (Operand.Truth q) = Err WrongKind
-
-abbrev pub relates : Relation → Operand → Operand → Result Rate KindFault
-relates r (Operand.Number a) (Operand.Number b) = Ok (Rate.Truth (holds r a b))
-relates r (Operand.Number a) (Operand.Truth q) = Err WrongKind
-relates r (Operand.Truth p) (Operand.Number b) = Err WrongKind
-relates r (Operand.Truth p) (Operand.Truth q) = alike r p q
-
--- A word is the bits of a binary64 number, the highest byte first.
-abbrev pub word : List ℕ → Option Rate
+-- A word is the bits of a binary64 number, its highest byte first.
+abbrev pub word : List ℕ → Option Finite
 word bytes = provided (float_is_finite (from_bits binary64 (number_from_digits 256 bytes))) (λ t. Some (stored (number_from_digits 256 bytes) t)) None
 
 -- The whole numbers up to 2 ^ 53 are binary64 numbers.
@@ -94,24 +61,21 @@ whole-finite n h =
     (has-finite (of_int binary64 (pos n)) false n 1 (round_whole binary64 false n h))
 
 -- The literals of a program text are at most 2147483647.
-abbrev pub literal : ℕ → Rate
+abbrev pub literal : ℕ → Finite
 literal n = let m = min n 2147483647 in stored (to_bits binary64 (of_int binary64 (pos m))) (whole-finite m (omega arith))
 
-pub told_only : (v : Rate) (b : Bool) → told v ≡ Some b → v ≡ Rate.Truth b
-told_only (Rate.Number n) b e = cc
-told_only (Rate.Truth c) b e = cc
-
--- The meaning of the kind.
-abbrev pub rates : Meaning Rate
-rates =
+-- The meaning of the numbers. The negative of a number has the other sign and the same size.
+abbrev pub finites : Numbers Finite Float
+finites =
     record {
       literal = literal;
-      truth = Rate.Truth;
-      told = told;
-      told_truth = λ b. refl;
-      told_only = told_only;
-      negated = λ x. flipped (unpacked x);
-      computed = λ op x y. computes op (unpacked x) (unpacked y);
-      related = λ r x y. relates r (unpacked x) (unpacked y);
+      operand = λ n. from_bits binary64 n.bits;
+      negated = λ x. packed (neg x);
+      computed = calculated;
+      holds = holds;
       word = word;
     }
+
+-- The meaning of the kind.
+abbrev pub rates : Meaning (Value Finite)
+rates = values finites

@@ -1,6 +1,6 @@
 //! What the engine asks of a kind of values.
 
-ghost use Rattle.std.specs.Prelude.{◌≡◌, min};
+ghost use Rattle.std.specs.Prelude.{◌≡◌};
 ghost use Rattle.kind.specs.Kinds.{Meaning};
 
 use reading::{Arithmetic, KindFault, Relation};
@@ -31,14 +31,4 @@ pub trait Kind: Copy {
     /// The value that eight bytes stand for.
     fn word(bytes: [u8; 8]) -> Option<Self>
         ensures { result ≡ meaning.word bytes };
-}
-
-/// The greatest literal of a text.
-const GREATEST: u32 = 2147483647;
-
-/// A literal, kept to the greatest that a text can have.
-pub(crate) fn capped(n: u32) -> u32
-    ensures { result ≡ min n 2147483647 }
-{
-    if n < GREATEST { n } else { GREATEST }
 }

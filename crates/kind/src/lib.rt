@@ -2,14 +2,18 @@
 
 #![tactic(auto)]
 
-mod bounded;
 mod finite;
+mod integer;
 mod kinds;
+mod numbers;
 mod rate;
+mod values;
 mod whole;
 
-pub use bounded::Integer;
 pub use finite::Finite;
+pub use integer::Integer;
 pub use kinds::Kind;
+pub use numbers::Number;
 pub use rate::Rate;
+pub use values::Value;
 pub use whole::Whole;

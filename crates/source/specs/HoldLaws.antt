@@ -6,11 +6,6 @@ use Rattle.reading.specs.declared.faults.SourceFault.TheVariants.{Ended, Gap, Ou
 use Rattle.source.specs.Sources.{Meaning, Lawful}
 use Rattle.source.specs.Holds.{unless_gap, latest, held}
 
--- one tick further back
-pub latest-step : {V : Type 0} (said : ℕ → Result V SourceFault) (n : ℕ) → 0 < n → latest said n ≡ unless_gap (said (n - 1)) (latest said (n - 1))
-latest-step said zero h = absurd (omega arith)
-latest-step said (suc n) h = ap (λ (k : ℕ). unless_gap (said k) (latest said k)) (omega arith)
-
 ended : {V : Type 0} (r s : Result V SourceFault) → unless_gap r s ≡ Err Ended → (r ≡ Err Ended) ⊎ (s ≡ Err Ended)
 ended (Ok v) s e = inl e
 ended (Err Ended) s e = inl refl
@@ -22,8 +17,8 @@ latest-runs said zero runs e = let z : ◌≡◌ {A = ℕ} 0 1 = cc in omega ari
 latest-runs said (suc n) runs e =
     ⊎_elim (runs n (omega arith)) (latest-runs said n (λ k h. runs k (omega arith))) (ended (said n) (latest said n) e)
 
-pub held-lawful : {V : Type 0} (m : Meaning V) → Lawful m → Lawful (held m)
-held-lawful m law =
+pub held_lawful : {V : Type 0} (m : Meaning V) → Lawful m → Lawful (held m)
+held_lawful m law =
     record {
       past = λ c t h. ap (λ r. unless_gap r (latest (m.says c) t)) (law.past c t h);
       within = λ c t i j e. ⊎_elim (law.within c t i j) (latest-runs (m.says c) t (λ k h. law.within c k i (omega arith))) (ended (m.says c t) (latest (m.says c) t) e);
@@ -55,8 +50,8 @@ latest-none : {V : Type 0} (said : ℕ → Result V SourceFault) (n : ℕ) → (
 latest-none said zero gaps = refl
 latest-none said (suc n) gaps = ap (λ r. unless_gap r (latest said n)) (gaps n (omega arith)) ∙ latest-none said n (λ k h. gaps k (omega arith))
 
-pub held-filled : {V : Type 0} (m : Meaning V) → Filled m (held m).says
-held-filled m = (
+pub held_filled : {V : Type 0} (m : Meaning V) → Filled m (held m).says
+held_filled m = (
   (λ c s t h no_gap gaps.
       let e : suc t ≡ s + suc (t - s) = omega arith in
       ap (latest (m.says c)) e ∙ latest_at (m.says c) s (t - s) no_gap (λ k i j. gaps k i (omega arith))),

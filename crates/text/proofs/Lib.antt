@@ -1,4 +1,3 @@
 pub mod Chain
 mod Hex
 mod Labels
-mod Signs

@@ -29,7 +29,7 @@ impl Text {
     {
         for field in fields {
             self.push_str(field.words);
-            self.push_decimal(field.value);
+            self.push_number(field.value);
         }
     }
 

@@ -1,72 +1,36 @@
 //! Numbers, as text.
 
-ghost use Rattle.std.specs.Prelude.{◌≡◌, ◌+◌, ◌<◌, [], ◌∷◌, pos, decimal, int_lt};
-ghost use Rattle.std.specs.Fmt.{sign_text, signed_decimal};
-ghost use Rattle.text.specs.Hexadecimal.{hex_digit, hex_text, bits_text};
+ghost use Rattle.std.specs.Prelude.{◌≡◌};
+ghost use Rattle.text.specs.Hexadecimal.{bits_text};
 ghost use Rattle.text.specs.Pushed.{Pushed};
 
 use crate::text::Text;
+use hex::encode_to_slice;
+use itoa::{Buffer, Integer};
 
-fn hex_digit(digit: u8) -> u8
-    requires { digit < 16 }
-    ensures { result ≡ hex_digit digit }
+/// The sixteen hexadecimal digits of a word, the letters small.
+fn hex_digits(bits: u64) -> [u8; 16]
+    ensures { result ≡ bits_text bits }
 {
-    if digit < 10 {
-        b'0' + digit
-    } else {
-        b'a' - 10 + digit
-    }
-}
-
-fn sign_of(n: i32) -> &'static str
-    ensures { result.now ≡ sign_text (int_lt n (pos 0)) }
-{
-    if n < 0 { "-" } else { "" }
+    let mut digits = [0; 16];
+    encode_to_slice(bits.to_be_bytes(), &mut digits).unwrap();
+    digits
 }
 
 impl Text {
-    fn push_digit(&mut self, digit: u8)
-        requires { digit < 10 }
-        ensures { Pushed self.old self.new ((48 + digit) ∷ []) }
+    /// Appends a number in decimal, without needless zeros, and with a minus sign below 0.
+    pub fn push_number<I: Integer>(&mut self, n: I)
+        ensures { Pushed self.old self.new (I.text n) }
     {
-        self.push_ascii(b'0' + digit);
-    }
-
-    /// Appends a number in decimal, without needless zeros.
-    pub fn push_decimal(&mut self, n: u64)
-        ensures { Pushed self.old self.new (decimal n) }
-    {
-        if n < 10 {
-            self.push_digit(n as u8);
-            return;
-        }
-        self.push_decimal(n / 10);
-        self.push_digit((n % 10) as u8);
-    }
-
-    /// Appends a number in decimal, with a minus sign below 0.
-    pub fn push_signed(&mut self, n: i32)
-        ensures { Pushed self.old self.new (signed_decimal n) }
-    {
-        self.push_str(sign_of(n));
-        self.push_decimal(n.unsigned_abs() as u64);
-    }
-
-    /// Appends the last hexadecimal digits of a number, as many as are asked for.
-    fn push_hex_digits(&mut self, n: u64, count: u8)
-        ensures { Pushed self.old self.new (hex_text count n) }
-    {
-        if count == 0 {
-            return;
-        }
-        self.push_hex_digits(n / 16, count - 1);
-        self.push_ascii(hex_digit((n % 16) as u8));
+        let mut buffer = Buffer::new();
+        self.push_str(buffer.format(n));
     }
 
     /// Appends sixteen hexadecimal digits, the letters small.
     pub fn push_hex(&mut self, bits: u64)
         ensures { Pushed self.old self.new (bits_text bits) }
     {
-        self.push_hex_digits(bits, 16);
+        let digits = hex_digits(bits);
+        self.push_str(str::from_utf8(&digits).unwrap());
     }
 }

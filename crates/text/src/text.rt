@@ -1,55 +1,43 @@
 //! A text that grows at its end.
 
-ghost use Rattle.std.specs.Prelude.{◌≡◌, ◌<◌, false, [], ◌∷◌, if◌then◌else◌, Ok, Err};
+ghost use Rattle.std.specs.Prelude.{◌≡◌, []};
+ghost use Rattle.std.specs.Result.{IsOkAnd};
 ghost use Rattle.text.specs.Pushed.{Pushed, bytes_of};
 
 use std::alloc::{AllocError, Global};
 
-/// A text that is appended to, and remembers that memory ran out. So only its end has to be asked for success.
+/// A text that is appended to, or the error of the append for which there was no memory. So only its end has to be
+/// asked for success.
 #[derive(Drop)]
 pub struct Text {
-    pub(crate) text: String,
-    pub(crate) lost: bool,
+    pub(crate) text: Result<String, AllocError>,
 }
 
 impl Text {
     /// An empty text.
     pub fn new(heap: Global) -> Text
-        ensures kept { result.lost ≡ false }
-        ensures bytes { bytes_of result ≡ [] }
+        ensures { IsOkAnd result.text (λ s. bytes_of s ≡ []) }
     {
         Text {
-            text: String::new(heap),
-            lost: false,
+            text: Ok(String::new(heap)),
         }
     }
 
+    /// Appends a text.
     pub fn push_str(&mut self, s: &str)
         ensures { Pushed self.old self.new s.now }
     {
-        if !self.lost && self.text.push_str(s).is_err() {
-            self.lost = true;
-        }
-    }
-
-    /// Appends one ASCII character.
-    pub(crate) fn push_ascii(&mut self, c: u8)
-        requires { c < 128 }
-        ensures { Pushed self.old self.new (c ∷ []) }
-    {
-        if !self.lost && self.text.push(c as char).is_err() {
-            self.lost = true;
+        if let Ok(text) = &mut self.text
+            && let Err(error) = text.push_str(s)
+        {
+            *self = Text { text: Err(error) };
         }
     }
 
     /// The whole text, unless memory ran out.
     pub fn finish(self) -> Result<String, AllocError>
-        ensures { result ≡ (if self.lost then Err (record {}) else Ok self.text) }
+        ensures { result ≡ self.text }
     {
-        if self.lost {
-            Err(AllocError)
-        } else {
-            Ok(self.text)
-        }
+        self.text
     }
 }

@@ -7,7 +7,7 @@ use Rattle.text.proofs.text.Text.push_fields.Goals as goal
 pub loop-field-preserved : goal.loop-field-preserved
 loop-field-preserved c =
     rw add-one
-    (pushed-is _ _ _ _ (fields-more c.args.fields.now c.loop-field.field-index _ (omega arith)) (pushed_then _ _ _ _ _ c.loop-field.invariant (pushed_then _ _ _ _ _ c.push_str.ensures c.push_decimal.ensures)))
+    (pushed-is _ _ _ _ (fields-more c.args.fields.now c.loop-field.field-index _ (omega arith)) (pushed_then _ _ _ _ _ c.loop-field.invariant (pushed_then _ _ _ _ _ c.push_str.ensures c.push_number.ensures)))
 
 pub returns : goal.returns
 returns c =

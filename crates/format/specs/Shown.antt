@@ -5,10 +5,10 @@ use Rattle.text.specs.Fields.{fields_text}
 use Rattle.text.specs.Hexadecimal.{bits_text}
 use Rattle.reading.specs.Faults.{Reading, number_of}
 use Rattle.reading.specs.declared.faults.Fault.{Fault}
-use Rattle.kind.specs.declared.whole.Whole.{Whole}
-use Rattle.kind.specs.declared.whole.Whole.TheVariants as Wholes
-use Rattle.kind.specs.declared.rate.Rate.{Rate}
-use Rattle.kind.specs.declared.rate.Rate.TheVariants as Rates
+use Rattle.kind.specs.declared.integer.Integer.{Integer}
+use Rattle.kind.specs.declared.finite.Finite.{Finite}
+use Rattle.kind.specs.declared.values.Value.{Value}
+use Rattle.kind.specs.declared.values.Value.TheVariants as Values
 use Rattle.format.specs.declared.lines.Heading.{Heading}
 use Rattle.format.specs.declared.lines.Line.{Line}
 use Rattle.format.specs.declared.lines.Refused.{Refused}
@@ -18,14 +18,24 @@ abbrev pub truth_text : Bool → List ℕ
 truth_text b = cond b (codes "true") (codes "false")
 
 -- A whole number in decimal, with a minus sign below 0.
-abbrev pub whole_text : Whole → List ℕ
-whole_text (Wholes.Number n) = signed_decimal n.value
-whole_text (Wholes.Truth b) = truth_text b
+abbrev pub integer_text : Integer → List ℕ
+integer_text n = signed_decimal n.value
 
 -- A rate by the sixteen hexadecimal digits of its bits.
-abbrev pub rate_text : Rate → List ℕ
-rate_text (Rates.Number n) = bits_text n.bits
-rate_text (Rates.Truth b) = truth_text b
+abbrev pub finite_text : Finite → List ℕ
+finite_text n = bits_text n.bits
+
+-- A value, by what is printed of a number.
+abbrev pub value_text : {N : Type 0} → (N → List ℕ) → Value N → List ℕ
+value_text text (Values.Number n) = text n
+value_text text (Values.Truth b) = truth_text b
+
+-- A value of either kind.
+abbrev pub whole_text : Value Integer → List ℕ
+whole_text = value_text integer_text
+
+abbrev pub rate_text : Value Finite → List ℕ
+rate_text = value_text finite_text
 
 -- The fields of a fault: its number and birth.
 abbrev pub fault_fields : Fault → List (List ℕ × ℕ)

@@ -49,7 +49,7 @@ impl<V: Shown> Shown for Line<V> {
     ghost text = { line_text V.Shown.text };
 
     fn push_to(&self, out: &mut Text) {
-        out.push_decimal(self.tick as u64);
+        out.push_number(self.tick);
         out.push_str(" ");
         self.reading.push_to(out);
         out.push_str("\n");

@@ -3,13 +3,15 @@
 ghost use Rattle.std.specs.Prelude.{◌≡◌, ℕ, List};
 ghost use Rattle.text.specs.Fields.{labelled};
 ghost use Rattle.text.specs.Pushed.{Pushed};
-ghost use Rattle.format.specs.Shown.{truth_text, whole_text, rate_text, fault_fields, fault_text, reading_text};
+ghost use Rattle.format.specs.Shown.{truth_text, integer_text, finite_text, value_text, fault_fields, fault_text, reading_text};
 
-use kind::{Rate, Whole};
+use kind::{Finite, Integer, Value};
 use reading::{Fault, Reading};
 use text::{Field, Text};
 
 /// What is printed of a value. `text` gives its bytes, and they are what is appended.
+// Not `Display`, which was tried: of a text whose item's `fmt` gave up nothing is known, so that it could not be promised
+// that nothing is lost where there is room.
 pub trait Shown {
     ghost text: { Self → List ℕ };
 
@@ -25,24 +27,29 @@ impl Shown for bool {
     }
 }
 
-impl Shown for Whole {
-    ghost text = { whole_text };
+impl Shown for Integer {
+    ghost text = { integer_text };
 
     fn push_to(&self, out: &mut Text) {
-        match self {
-            Whole::Number(n) => out.push_signed(n.value),
-            Whole::Truth(b) => b.push_to(out),
-        }
+        out.push_number(self.value);
     }
 }
 
-impl Shown for Rate {
-    ghost text = { rate_text };
+impl Shown for Finite {
+    ghost text = { finite_text };
+
+    fn push_to(&self, out: &mut Text) {
+        out.push_hex(self.bits);
+    }
+}
+
+impl<N: Shown> Shown for Value<N> {
+    ghost text = { value_text N.Shown.text };
 
     fn push_to(&self, out: &mut Text) {
         match self {
-            Rate::Number(n) => out.push_hex(n.bits),
-            Rate::Truth(b) => b.push_to(out),
+            Value::Number(n) => n.push_to(out),
+            Value::Truth(b) => b.push_to(out),
         }
     }
 }

@@ -1,10 +1,12 @@
 -- What is printed of a text and a recording.
-use Rattle.std.specs.Prelude.{◌≡◌, ℕ, ◌<◌, List, ◌++◌, take, Ok, Err, Result, ◌≢◌, slice_index, slice_index_or}
+use Rattle.std.specs.Prelude.{◌≡◌, ℕ, ◌<◌, ◌==◌, cond, List, ◌++◌, take, Ok, Err, Result, ◌≢◌, slice_index, slice_index_or}
 use Rattle.kind.specs.Kinds.{Meaning}
 use Rattle.kind.specs.Wholes.{wholes}
 use Rattle.kind.specs.Rates.{rates}
 use Rattle.source.specs.declared.format.Counts.{Counts}
 use Rattle.source.specs.declared.format.RecordingError.{RecordingError}
+use Rattle.source.specs.declared.format.RecordedKind.{RecordedKind}
+use Rattle.source.specs.declared.format.RecordedKind.TheVariants.{Whole, Rate}
 use Rattle.source.specs.Sources as Sources
 use Rattle.source.specs.Holds.{held}
 use Rattle.source.specs.Openings.{Opens}
@@ -46,6 +48,10 @@ pub record Runs {V : Type 0} (k : Meaning V) (text : V → List ℕ) (code : ℕ
   pub counts : Result Counts RecordingError
   pub opens : Opens code bytes counts
   pub ran : Ran k text t bytes counts o
+
+-- The kind that byte 0 tells, and whole numbers where it tells none.
+abbrev pub told_kind : List ℕ → RecordedKind
+told_kind bytes = cond (slice_index bytes 0 == 1) Rate Whole
 
 -- Byte 0 tells rates by 1; all else is tried as a recording of whole numbers.
 pub record Benched (t : Schedule) (bytes : List ℕ) (o : Result (List ℕ) Refusal) : Type 0 where

@@ -1,7 +1,8 @@
 //! The whole list.
 
-ghost use Rattle.std.specs.Prelude.{◌≡◌, ◌≤◌, length, IfOk, string_bytes, OnOk, slice_index};
-ghost use Rattle.listing.specs.Printed.{Appended, Benched, Closed, Printed, Runs, Told, Tried};
+ghost use Rattle.std.specs.Prelude.{◌≡◌, ◌≤◌, length, IfOk, string_bytes, OnOk};
+ghost use Rattle.source.specs.Recordings.{code_of};
+ghost use Rattle.listing.specs.Printed.{Appended, Benched, Closed, Printed, Runs, Told, Tried, told_kind};
 
 use crate::limits::cut_recording;
 use crate::refusal::Refusal;
@@ -10,13 +11,10 @@ use kind::{Rate, Whole};
 use load::load;
 use reading::{Fault, FaultNumber, Reading};
 use report::push_run;
-use source::{Hold, Recorded, Recording};
+use source::{Hold, Recorded, RecordedKind, Recording};
 use std::alloc::{AllocError, Global};
 use table::Table;
 use text::Text;
-
-/// The code of rates in the first byte of a recording.
-const RATE_CODE: u8 = 1;
 
 /// What a cell holds before a run.
 const UNREAD: Fault = Fault {
@@ -25,11 +23,14 @@ const UNREAD: Fault = Fault {
     tick: 0,
 };
 
-/// The first byte of a recording, which tells its kind.
-fn kind_code(recording: &[u8]) -> u8
-    ensures { result ≡ slice_index recording.now 0 }
+/// The kind that a recording tells. One that tells none is tried as whole numbers, which refuses it.
+fn told_kind(recording: &[u8]) -> RecordedKind
+    ensures { result ≡ told_kind recording.now }
 {
-    if recording.len() > 0 { recording[0] } else { 0 }
+    match recording {
+        [code, ..] => RecordedKind::try_from(*code).unwrap_or(RecordedKind::Whole),
+        [] => RecordedKind::Whole,
+    }
 }
 
 /// Opens a recording of the kind K, and appends the list of the table's run over it, its gaps filled.
@@ -40,7 +41,7 @@ fn push_recorded<K: Recorded + Shown>(
     out: &mut Text,
 ) -> Result<(), Refusal>
     requires { table.now.schedule.size ≤ length cells.old }
-    ensures { Tried (Runs K.Kind.meaning K.Shown.text K.Recorded.code table.now.schedule recording.now) out.old out.new result }
+    ensures { Tried (Runs K.Kind.meaning K.Shown.text (code_of K.Recorded.KIND) table.now.schedule recording.now) out.old out.new result }
 {
     let source = Hold::over(Recording::<K>::open(recording)?);
     push_run(table, &source, cells, out)?;
@@ -52,7 +53,7 @@ fn push_refusal(tried: Result<(), Refusal>, out: &mut Text)
     ensures { Closed tried out.old out.new }
 {
     if let Err(refusal) = tried {
-        refusal.line().push_to(out);
+        refusal.push_to(out);
     }
 }
 
@@ -63,7 +64,7 @@ fn push_list<K: Recorded + Shown + Clone>(
     recording: &[u8],
     out: &mut Text,
 ) -> Result<(), AllocError>
-    ensures { OnOk result (Appended (Runs K.Kind.meaning K.Shown.text K.Recorded.code table.now.schedule recording.now) out.old out.new) }
+    ensures { OnOk result (Appended (Runs K.Kind.meaning K.Shown.text (code_of K.Recorded.KIND) table.now.schedule recording.now) out.old out.new) }
 {
     let mut cells = vec![in heap; Reading::<K>::Err(UNREAD); table.schedule.size]?;
     let tried = push_recorded(table, recording, &mut cells, out);
@@ -80,10 +81,9 @@ fn push_table(
 ) -> Result<(), AllocError>
     ensures { OnOk result (Appended (Benched table.now.schedule recording.now) out.old out.new) }
 {
-    if kind_code(recording) == RATE_CODE {
-        push_list::<Rate>(heap, table, recording, out)
-    } else {
-        push_list::<Whole>(heap, table, recording, out)
+    match told_kind(recording) {
+        RecordedKind::Whole => push_list::<Whole>(heap, table, recording, out),
+        RecordedKind::Rate => push_list::<Rate>(heap, table, recording, out),
     }
 }
 
@@ -94,7 +94,7 @@ fn push_text(heap: Global, text: &[u8], recording: &[u8], out: &mut Text) -> Res
     match load(text) {
         Ok(table) => push_table(heap, &table, recording, out),
         Err(refusal) => {
-            Refusal::from(refusal).line().push_to(out);
+            Refusal::from(refusal).push_to(out);
             Ok(())
         }
     }

@@ -1,11 +1,13 @@
 //! Why there is no list.
 
 ghost use Rattle.std.specs.Prelude.{◌≡◌};
+ghost use Rattle.format.specs.Shown.{refused_text};
 ghost use Rattle.listing.specs.declared.refusal.Refusal.TheVariants as Refusals;
 ghost use Rattle.listing.specs.Refusals.{number_of, place_of, refused};
 
-use format::Refused;
+use format::{Refused, Shown};
 use source::RecordingError;
+use text::Text;
 
 /// A refusal of the text, of the recording or of the run.
 #[derive(Clone, Copy, Drop)]
@@ -46,6 +48,14 @@ impl Refusal {
             number: self.number(),
             place: self.place(),
         }
+    }
+}
+
+impl Shown for Refusal {
+    ghost text = { λ r. refused_text (refused r) };
+
+    fn push_to(&self, out: &mut Text) {
+        self.line().push_to(out);
     }
 }
 

@@ -15,13 +15,13 @@ returns-in_err-push_run g c =
     let same = c.over-source.ensures.same in
     let recording = c.in_ok-open.ensures in
     let ends : c.from_residual-in_err-push_run.result ≡ Err (Run c.in_err-push_run.field-0.0) = search rules in
-    refused-run _ _ _ _ c.args.recording.now c.over-source.result.source.bytes.now c.in_ok-open.field-0.counts c.over-source.result.source.counts
-    (ap (λ r. r.bytes.now) same ∙ recording.value.1) (ap (λ r. r.counts) same) recording.opens _ c.requires _ _ _ c.push_run.ensures _ _ c.in_err-push_run.was ends
+    refused-run _ _ _ _ c.args.recording.now c.over-source.result.source.body.bytes.now c.in_ok-open.field-0.body.counts c.over-source.result.source.body.counts
+    (ap (λ r. r.body.bytes.now) same ∙ recording.value.1) (ap (λ r. r.body.counts) same) recording.opens _ c.requires _ _ _ c.push_run.ensures _ _ c.in_err-push_run.was ends
 
 pub returns : goal.returns
 returns g c =
     let same = c.over-source.ensures.same in
     let recording = c.in_ok-open.ensures in
-    accepted-run _ _ _ _ c.args.recording.now c.over-source.result.source.bytes.now c.in_ok-open.field-0.counts c.over-source.result.source.counts
-    (ap (λ r. r.bytes.now) same ∙ recording.value.1) (ap (λ r. r.counts) same) recording.opens _ c.requires _ _ _ c.push_run.ensures
+    accepted-run _ _ _ _ c.args.recording.now c.over-source.result.source.body.bytes.now c.in_ok-open.field-0.body.counts c.over-source.result.source.body.counts
+    (ap (λ r. r.body.bytes.now) same ∙ recording.value.1) (ap (λ r. r.body.counts) same) recording.opens _ c.requires _ _ _ c.push_run.ensures
     (sound-determines c.args.table.now.schedule _ c.args.table.now.checked _ _) _ c.in_ok-push_run.was

@@ -5,4 +5,4 @@ use Rattle.format.proofs.lines.LineShown.push_to.Goals as goal
 pub returns : goal.returns
 unfolding line_text
 returns g c =
-    pushed_then _ _ _ _ _ c.push_decimal.ensures (pushed_then _ _ _ _ _ c.push_str.ensures (pushed_then _ _ _ _ _ c.push_to.ensures c.push_str-2.ensures))
+    pushed_then _ _ _ _ _ c.push_number.ensures (pushed_then _ _ _ _ _ c.push_str.ensures (pushed_then _ _ _ _ _ c.push_to.ensures c.push_str-2.ensures))

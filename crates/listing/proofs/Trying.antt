@@ -21,12 +21,12 @@ use Rattle.listing.specs.Printed.{Runs, Tried}
 
 few-of : (code : ℕ) (bytes : List ℕ) (x : Result Counts RecordingError) → Opens code bytes x → (n : Counts) → x ≡ Ok n → n.ticks ≤ 100000
 few-of code bytes _ (opened m heads len marks) n e = let h = heads.few_ticks in let z : m ≡ n = cc in subst (λ (c : Counts). c.ticks ≤ 100000) z h
-few-of code bytes _ (cut_header a) n e = let z : ◌≡◌ {A = ℕ} 0 1 = cc in absurd (omega arith)
-few-of code bytes _ (other_kind a b) n e = let z : ◌≡◌ {A = ℕ} 0 1 = cc in absurd (omega arith)
-few-of code bytes _ (bad_channels a b c) n e = let z : ◌≡◌ {A = ℕ} 0 1 = cc in absurd (omega arith)
-few-of code bytes _ (bad_ticks a b c d f) n e = let z : ◌≡◌ {A = ℕ} 0 1 = cc in absurd (omega arith)
-few-of code bytes _ (bad_length a b c) n e = let z : ◌≡◌ {A = ℕ} 0 1 = cc in absurd (omega arith)
-few-of code bytes _ (bad_mark a b c d f g h) n e = let z : ◌≡◌ {A = ℕ} 0 1 = cc in absurd (omega arith)
+few-of code bytes _ (cut_header a) n e = cc
+few-of code bytes _ (other_kind a b) n e = cc
+few-of code bytes _ (bad_channels a b c) n e = cc
+few-of code bytes _ (bad_ticks a b c d f) n e = cc
+few-of code bytes _ (bad_length a b c) n e = cc
+few-of code bytes _ (bad_mark a b c d f g h) n e = cc
 
 module _ {V : Type 0} (k : Meaning V) (text : V → List ℕ) (code : ℕ) (t : Schedule) (bytes bytes' : List ℕ) (n n' : Counts) (same_bytes : bytes' ≡ bytes) (same-counts : n' ≡ n)
     (opens : Opens code bytes (Ok n)) (room : ℕ) (enough : t.size ≤ room) (was end : Text) (r : Result Unit Calls.Refusal)
@@ -48,8 +48,7 @@ module _ {V : Type 0} (k : Meaning V) (text : V → List ℕ) (code : ℕ) (t : 
         | no z ↦
             let some : 1 ≤ n.ticks = omega arith in
             let h = rep.listed some few enough in
-            let x : ◌≡◌ {A = ℕ} 0 1 = cc in
-            absurd (omega arith)
+            cc
       ]
 
   -- Else it is listed.
@@ -58,8 +57,7 @@ module _ {V : Type 0} (k : Meaning V) (text : V → List ℕ) (code : ℕ) (t : 
       elim (dec_lt n.ticks 1) [
         | yes z ↦
             let h = (rep.none z).0 in
-            let x : ◌≡◌ {A = ℕ} 0 1 = cc in
-            absurd (omega arith)
+            cc
         | no z ↦
             let some : 1 ≤ n.ticks = omega arith in
             let one = determined.some n.ticks in

@@ -57,8 +57,7 @@ module _ {V : Type 0} (k : Meaning V) (says : Says V) (before after : Run V) (st
       Going k says before H stages ticks → ⊥
   never-unsettled r e is law H stages ticks g =
       let h = (settled-more (answered Left r) law H stages ticks g).0 in
-      let z : ◌≡◌ {A = ℕ} 0 1 = cc in
-      omega arith
+      cc
 
 -- A step of a run that began as `first` is never refused, and answers the next tick with the sheet's reading.
 module _ {V : Type 0} (k : Meaning V) (says : Says V) (first before after : Run V) (kept : Stays first before) (stays : Stays before after) (r : Result (ℕ × Reading V) Refusal)
@@ -72,8 +71,7 @@ module _ {V : Type 0} (k : Meaning V) (says : Says V) (first before after : Run 
   pub never-over : (e : Refusal) → r ≡ Err e → ⊥
   never-over e is =
       let h = more.0 in
-      let z : ◌≡◌ {A = ℕ} 0 1 = cc in
-      omega arith
+      cc
 
   pub made-is : (m : ℕ × Reading V) → r ≡ Ok m → (m.0 ≡ ticks) × (m.1 ≡ σ (laid first).result ticks)
   made-is m is =

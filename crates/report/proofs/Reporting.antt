@@ -38,19 +38,19 @@ module _ {V : Type 0} (t : Schedule) (k : Meaning V) (says : Says V) (text : V �
         none = λ h. let a = right.0 h in (cc, refl);
         far = λ h. let a = right.1 h in (cc, refl);
         few = λ h i j. let a = right.2 h i j in (cc, refl);
-        listed = λ h i j. let a = right.3 h i j in let z : ◌≡◌ {A = ℕ} 0 1 = cc in absurd (omega arith);
-        lines = λ h i j σ fits. let a = right.3 h i j in let z : ◌≡◌ {A = ℕ} 0 1 = cc in absurd (omega arith);
+        listed = λ h i j. let a = right.3 h i j in cc;
+        lines = λ h i j σ fits. let a = right.3 h i j in cc;
       }
 
   module _ (n : ℕ) (is : r ≡ Ok n) where
     some : 1 ≤ H
-    some = elim (dec_lt H 1) [ yes h ↦ let a = right.0 h in let z : ◌≡◌ {A = ℕ} 0 1 = cc in absurd (omega arith) | no h ↦ omega arith ]
+    some = elim (dec_lt H 1) [ yes h ↦ let a = right.0 h in cc | no h ↦ omega arith ]
 
     near : H ≤ 100000
-    near = elim (dec_lt 100000 H) [ yes h ↦ let a = right.1 h in let z : ◌≡◌ {A = ℕ} 0 1 = cc in absurd (omega arith) | no h ↦ omega arith ]
+    near = elim (dec_lt 100000 H) [ yes h ↦ let a = right.1 h in cc | no h ↦ omega arith ]
 
     enough : t.size ≤ room
-    enough = elim (dec_lt room t.size) [ yes h ↦ let a = right.2 some near h in let z : ◌≡◌ {A = ℕ} 0 1 = cc in absurd (omega arith) | no h ↦ omega arith ]
+    enough = elim (dec_lt room t.size) [ yes h ↦ let a = right.2 some near h in cc | no h ↦ omega arith ]
 
     module _ (stays : Stays fresh began) where
       open-laid : laid began ≡ layout t
@@ -75,7 +75,7 @@ module _ {V : Type 0} (t : Schedule) (k : Meaning V) (says : Says V) (text : V �
           (goes : (H made : ℕ) → Going k says began H n made → (settle ≡ Ok tt) × Going k says settled H 0 made) where
         -- Settling is not refused.
         pub never-left : (e : Refusal) → settle ≡ Err e → ⊥
-        never-left e err = let a = (goes H 0 going-opened).0 in let z : ◌≡◌ {A = ℕ} 0 1 = cc in omega arith
+        never-left e err = let a = (goes H 0 going-opened).0 in cc
 
         settled-laid : laid settled ≡ layout t
         settled-laid = same-laid k says began settled Stays-on ∙ open-laid

@@ -13,7 +13,7 @@ ended (Err Gap) s e = inr e
 ended (Err OutOfRange) s e = inl e
 
 latest-runs : {V : Type 0} (said : ℕ → Result V SourceFault) (n : ℕ) → ((k : ℕ) → k < n → said k ≢ Err Ended) → latest said n ≢ Err Ended
-latest-runs said zero runs e = let z : ◌≡◌ {A = ℕ} 0 1 = cc in omega arith
+latest-runs said zero runs e = cc
 latest-runs said (suc n) runs e =
     ⊎_elim (runs n (omega arith)) (latest-runs said n (λ k h. runs k (omega arith))) (ended (said n) (latest said n) e)
 

@@ -1,6 +1,6 @@
 -- What a recording means is a lawful source.
 use Rattle.std.specs.Prelude.{◌≡◌, ℕ, ◌+◌, ◌*◌, ◌<◌, ◌≤◌, Bool, true, false, cond, ◌&&◌, ◌⊎◌, List, Some, None, Err, Option, ◌==◌, ◌≢◌, nat_lt, slice_index, refl}
-use Rattle.std.proofs.Common.{ap, ◌∙◌, subst, inl, inr, arith, lt→ltb}
+use Rattle.std.proofs.Common.{ap, ◌∙◌, subst, inl, inr, lt→ltb}
 use Rattle.std.proofs.Math.Arith.{le→nltb}
 use Rattle.std.specs.Float.Ieee.Bits.{is_true, is_false}
 use Rattle.reading.specs.declared.faults.SourceFault.TheVariants.{Ended, Gap}
@@ -21,9 +21,9 @@ inside : (c t a b : ℕ) → c < a → t < b → (nat_lt c a && nat_lt t b) ≡ 
 inside c t a b h k = ap (λ (p : Bool). p && nat_lt t b) (is_true (nat_lt c a) (lt→ltb c a h)) ∙ is_true (nat_lt t b) (lt→ltb t b k)
 
 runs : {V : Type 0} (b : Bool) (o : Option V) → cond b (Err Gap) (heard o) ≢ Err Ended
-runs true o e = let z : ◌≡◌ {A = ℕ} 0 1 = cc in omega arith
-runs false (Some v) e = let z : ◌≡◌ {A = ℕ} 0 1 = cc in omega arith
-runs false None e = let z : ◌≡◌ {A = ℕ} 0 1 = cc in omega arith
+runs true o e = cc
+runs false (Some v) e = cc
+runs false None e = cc
 
 pub recorded_lawful : {V : Type 0} (k : Kinds.Meaning V) (bytes : List ℕ) (n : Counts) → Lawful (recorded k bytes n)
 recorded_lawful k bytes n =

@@ -6,8 +6,7 @@ use Rattle.reading.specs.declared.faults.SourceFault.TheVariants.{Ended, Gap, Ou
 use Rattle.kind.specs.Kinds as Kinds
 use Rattle.source.specs.declared.format.Counts.{Counts}
 use Rattle.source.specs.declared.format.RecordingError.{RecordingError}
-use Rattle.source.specs.declared.format.Flaw.{Flaw}
-use Rattle.source.specs.declared.format.Flaw.TheVariants.{Header, Mark, Length}
+use Rattle.source.specs.declared.format.RecordingError.TheVariants.{Header, Mark, Length}
 use Rattle.source.specs.declared.format.RecordedKind.{RecordedKind}
 use Rattle.source.specs.declared.format.RecordedKind.TheVariants.{Whole, Rate}
 use Rattle.source.specs.Sources.{Meaning}
@@ -17,26 +16,20 @@ abbrev pub code_of : RecordedKind → ℕ
 code_of Whole = 0
 code_of Rate = 1
 
--- The number of a flaw.
-abbrev pub flaw_number : Flaw → ℕ
-flaw_number Header = 10
-flaw_number Mark = 11
-flaw_number Length = 12
-
 -- The number of a refusal, and its place.
 abbrev pub number_of : RecordingError → ℕ
-number_of e = flaw_number e.flaw
+number_of (Header p) = 10
+number_of (Mark p) = 11
+number_of (Length p) = 12
 
 abbrev pub place_of : RecordingError → ℕ
-place_of e = e.place
-
--- A flaw at a place.
-abbrev pub flawed : Flaw → ℕ → RecordingError
-flawed flaw place = record { flaw = flaw; place = place }
+place_of (Header p) = p
+place_of (Mark p) = p
+place_of (Length p) = p
 
 -- The kind that a code tells.
 abbrev pub told : ℕ → Result RecordedKind RecordingError
-told code = cond (code == 0) (Ok Whole) (cond (code == 1) (Ok Rate) (Err (flawed Header 0)))
+told code = cond (code == 0) (Ok Whole) (cond (code == 1) (Ok Rate) (Err (Header 0)))
 
 -- Where the bytes of a tick begin, with its mark.
 abbrev pub start : Counts → ℕ → ℕ
@@ -58,10 +51,10 @@ ticks_of bytes = number_from_digits 256 (take 4 (drop 2 bytes))
 -- The header of a recording of the kind with that code: its counts, or the first field that is not as it should be.
 abbrev pub counted : ℕ → List ℕ → Result Counts RecordingError
 counted code bytes =
-    cond (nat_lt (length bytes) 6) (Err (flawed Header (length bytes)))
-    (cond (not (slice_index bytes 0 == code)) (Err (flawed Header 0))
-    (cond (nat_lt (slice_index bytes 1) 1 || nat_lt 8 (slice_index bytes 1)) (Err (flawed Header 1))
-    (cond (nat_lt 100000 (ticks_of bytes)) (Err (flawed Header 2))
+    cond (nat_lt (length bytes) 6) (Err (Header (length bytes)))
+    (cond (not (slice_index bytes 0 == code)) (Err (Header 0))
+    (cond (nat_lt (slice_index bytes 1) 1 || nat_lt 8 (slice_index bytes 1)) (Err (Header 1))
+    (cond (nat_lt 100000 (ticks_of bytes)) (Err (Header 2))
     (Ok (record { channels = slice_index bytes 1; ticks = ticks_of bytes })))))
 
 -- The least of the d ticks from t on whose mark is neither 0 nor 1.
@@ -72,12 +65,12 @@ first_bad bytes n t (suc d) = cond (nat_lt 1 (slice_index bytes (start n t))) (S
 -- The counts, or the refusal of a mark.
 abbrev pub marked : List ℕ → Counts → Option ℕ → Result Counts RecordingError
 marked bytes n None = Ok n
-marked bytes n (Some t) = Err (flawed Mark (start n t))
+marked bytes n (Some t) = Err (Mark (start n t))
 
 -- Bytes of the length that the counts say, with good marks.
 abbrev pub sized : List ℕ → Result Counts RecordingError → Result Counts RecordingError
 sized bytes (Err e) = Err e
-sized bytes (Ok n) = cond (length bytes == size_of n) (marked bytes n (first_bad bytes n 0 n.ticks)) (Err (flawed Length (length bytes)))
+sized bytes (Ok n) = cond (length bytes == size_of n) (marked bytes n (first_bad bytes n 0 n.ticks)) (Err (Length (length bytes)))
 
 -- The counts of a recording of the kind with that code, or the first thing that is wrong with it.
 abbrev pub checked : ℕ → List ℕ → Result Counts RecordingError

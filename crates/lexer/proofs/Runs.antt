@@ -1,14 +1,17 @@
 -- What the runs, a filled name and the digits of a literal say. Assumes nothing.
-use Rattle.std.proofs.Common.{◌≡◌, ℕ, ◌+◌, ◌-◌, ◌*◌, ◌<◌, ◌≤◌, Bool, true, List, [], ◌∷◌, ◌++◌, map, length, get_or, take, drop, replicate, None, fold, sym, refl, ap, ◌∙◌, zero, suc, arith}
+use Rattle.std.proofs.Common.{◌≡◌, ℕ, ◌+◌, ◌-◌, ◌*◌, ◌<◌, ◌≤◌, Bool, true, List, [], ◌∷◌, ◌++◌, map, length, get_or, take, drop, replicate, None, fold, sym, refl, ap, ◌∙◌, zero, suc, arith, cond, false, Option, Some}
 use Rattle.std.proofs.lemmas.Bool.{lt-leb, cond-false}
 use Rattle.std.proofs.lemmas.Grind.{same_number_lists}
 use Rattle.std.proofs.lemmas.List.{length-take, length-map, length-append, get_or-take, get_or-map, length-replicate, map-append, drop-replicate}
 use Rattle.std.proofs.lemmas.List.Sums.{prefix_len-drop_yes, prefix_len_passes, fold_more}
+use Rattle.std.specs.Borrow.{Bor}
+use Rattle.std.specs.Prelude.{find, bytes_eq, option_map}
 use Rattle.std.specs.Char.{to_ascii_lowercase}
 use Rattle.std.specs.List.{prefix_len}
 use Rattle.lexer.specs.declared.lexer.Run.{Run}
 use Rattle.lexer.specs.declared.lexer.Run.TheVariants.{Number}
-use Rattle.lexer.specs.Lexer.{class_of, in_run, run_end, longest, filled, part, Digits, greatest, value, literal}
+use Rattle.lexer.specs.declared.token.Token.{Token}
+use Rattle.lexer.specs.Lexer.{Entry, meaning, find as find_entry, class_of, in_run, run_end, longest, filled, part, Digits, greatest, value, literal}
 
 -- A run that begins at p goes past it.
 pub run_past : (run : Run) (bs : List ℕ) (p : ℕ) → p < length bs → in_run run (class_of (get_or bs p 0)) ≡ true → p < run_end run bs p
@@ -55,3 +58,16 @@ too_great xs i v h e g =
     let r = fronts 0 (i + 1) xs in
     let l : greatest < value xs = omega (arith, m, r) in
     sym (cond-false _ _ _ (lt-leb _ _ l))
+
+abbrev pub entry : Bor (List ℕ) × Token → Entry
+entry w = record { spelling = w.0.now; means = w.1 }
+
+either : (b : Bool) (w : Bor (List ℕ) × Token) (o : Option (Bor (List ℕ) × Token)) → option_map (λ w. w.1) (cond b (Some w) o) ≡ cond b (Some w.1) (option_map (λ w. w.1) o)
+either true w o = refl
+either false w o = refl
+
+-- What a word means among spellings is what it means among their entries.
+pub meaning_is : (ws : List (Bor (List ℕ) × Token)) (bs : List ℕ) → meaning ws bs ≡ find_entry (map entry ws) bs
+unfolding meaning
+meaning_is [] bs = refl
+meaning_is (w ∷ ws) bs = either (bytes_eq w.0.now bs) w (find (λ w. bytes_eq w.0.now bs) ws) ∙ ap (cond (bytes_eq w.0.now bs) (Some w.1)) (meaning_is ws bs)

@@ -1,8 +1,8 @@
 -- How bytes make words.
-use Rattle.std.specs.Prelude.{◌≡◌, ℕ, ◌+◌, ◌-◌, ◌*◌, ◌<◌, ◌≤◌, Bool, true, false, cond, ◌&&◌, ◌||◌, List, [], ◌∷◌, ◌++◌, map, length, drop, replicate, Some, None, Ok, Err, codes, fold, unwrap_or, Option, Result, ◌==◌, nat_le, slice_index, slice_range}
+use Rattle.std.specs.Prelude.{◌≡◌, ℕ, ◌+◌, ◌-◌, ◌*◌, ◌<◌, ◌≤◌, Bool, true, false, cond, ◌&&◌, ◌||◌, List, [], ◌∷◌, ◌++◌, map, length, drop, replicate, Some, None, Ok, Err, codes, fold, unwrap_or, bytes_eq, option_map, find as first_with, Option, Result, ◌==◌, nat_le, slice_index, slice_range}
+use Rattle.std.specs.Borrow.{Bor}
 use Rattle.std.specs.Char.{to_ascii_lowercase}
 use Rattle.std.specs.List.{prefix_len}
-use Rattle.std.specs.Option.{option_or}
 use Rattle.lexer.specs.declared.token.Atom.TheVariants as atom
 use Rattle.lexer.specs.declared.token.Infix.TheVariants as op
 use Rattle.lexer.specs.declared.token.Mark.TheVariants as mark
@@ -61,13 +61,6 @@ longest = 16
 abbrev pub filled : List ℕ → List ℕ
 filled bs = bs ++ replicate (longest - length bs) 0
 
--- Whether two words have the same bytes.
-abbrev pub same : List ℕ → List ℕ → Bool
-same [] [] = true
-same [] (y ∷ ys) = false
-same (x ∷ xs) [] = false
-same (x ∷ xs) (y ∷ ys) = x == y && same xs ys
-
 -- A word of the language and its spelling.
 pub record Entry : Type 0 where
   pub spelling : List ℕ
@@ -76,7 +69,7 @@ pub record Entry : Type 0 where
 -- What the first entry with the spelling means.
 abbrev pub find : List Entry → List ℕ → Option Token
 find [] bs = None
-find (e ∷ es) bs = cond (same e.spelling bs) (Some e.means) (find es bs)
+find (e ∷ es) bs = cond (bytes_eq e.spelling bs) (Some e.means) (find es bs)
 
 -- The words that build a text.
 abbrev pub marks : List Entry
@@ -130,7 +123,11 @@ atoms =
 
 -- The word of the language that small letters and digits spell, if they spell one.
 abbrev pub reserved : List ℕ → Option Token
-reserved bs = option_or (find marks bs) (option_or (find infixes bs) (option_or (find prefixes bs) (find atoms bs)))
+reserved bs = find (marks ++ (infixes ++ (prefixes ++ atoms))) bs
+
+-- What the first of the words with the spelling means.
+unfoldable pub meaning : List (Bor (List ℕ) × Token) → List ℕ → Option Token
+meaning ws bs = option_map (λ w. w.1) (first_with (λ w. bytes_eq w.0.now bs) ws)
 
 -- What a word of small letters and digits is: a word of the language, or else a name.
 abbrev pub named : List ℕ → Token

@@ -4,7 +4,7 @@ ghost use Rattle.std.specs.Prelude.{◌≡◌, ℕ, ◌+◌, ◌-◌, ◌<◌, �
 ghost use Rattle.std.specs.Char.{to_ascii_lowercase};
 ghost use Rattle.std.specs.List.{prefix_len};
 ghost use Rattle.std.specs.Option.{IfSome};
-ghost use Rattle.lexer.specs.Lexer.{class_of, in_run, run_end, skip, scan, sign, find, marks, infixes, atoms, prefixes, reserved, longest, filled, Digits, literal, name_word, number_word, word_of, Ends};
+ghost use Rattle.lexer.specs.Lexer.{class_of, in_run, run_end, skip, scan, sign, meaning, reserved, longest, filled, Digits, literal, name_word, number_word, word_of, Ends};
 
 use crate::token::{Atom, Infix, Mark, Name, Token};
 
@@ -114,81 +114,56 @@ fn sign(b: u8) -> Token
     }
 }
 
-// The mark that the word spells.
-fn mark_word(word: &[u8]) -> Option<Token>
-    ensures { result ≡ find marks word.now }
+// The words of the language, in small letters.
+const WORDS: [(&[u8], Token); 30] = [
+    (b"compute", Token::Mark(Mark::Compute)),
+    (b"output", Token::Mark(Mark::Output)),
+    (b"where", Token::Mark(Mark::Where)),
+    (b"end", Token::Mark(Mark::End)),
+    (b"if", Token::Mark(Mark::If)),
+    (b"then", Token::Mark(Mark::Then)),
+    (b"else", Token::Mark(Mark::Else)),
+    (b"fby", Token::Infix(Infix::Fby)),
+    (b"asa", Token::Infix(Infix::Asa)),
+    (b"or", Token::Infix(Infix::Or)),
+    (b"and", Token::Infix(Infix::And)),
+    (b"eq", Token::Infix(Infix::Eq)),
+    (b"ne", Token::Infix(Infix::Ne)),
+    (b"lt", Token::Infix(Infix::Lt)),
+    (b"le", Token::Infix(Infix::Le)),
+    (b"gt", Token::Infix(Infix::Gt)),
+    (b"ge", Token::Infix(Infix::Ge)),
+    (b"not", Token::Not),
+    (b"first", Token::First),
+    (b"next", Token::Next),
+    (b"true", Token::Atom(Atom::Truth(true))),
+    (b"false", Token::Atom(Atom::Truth(false))),
+    (b"input", Token::Atom(Atom::Channel(0))),
+    (b"input1", Token::Atom(Atom::Channel(1))),
+    (b"input2", Token::Atom(Atom::Channel(2))),
+    (b"input3", Token::Atom(Atom::Channel(3))),
+    (b"input4", Token::Atom(Atom::Channel(4))),
+    (b"input5", Token::Atom(Atom::Channel(5))),
+    (b"input6", Token::Atom(Atom::Channel(6))),
+    (b"input7", Token::Atom(Atom::Channel(7))),
+];
+
+// What the word means, if it is one of the words.
+#[tactic(auto, unfolding(crate::specs::Lexer::meaning))]
+fn meaning(words: &[(&[u8], Token)], word: &[u8]) -> Option<Token>
+    ensures { result ≡ meaning words.now word.now }
 {
-    match word {
-        b"compute" => Some(Token::Mark(Mark::Compute)),
-        b"output" => Some(Token::Mark(Mark::Output)),
-        b"where" => Some(Token::Mark(Mark::Where)),
-        b"end" => Some(Token::Mark(Mark::End)),
-        b"if" => Some(Token::Mark(Mark::If)),
-        b"then" => Some(Token::Mark(Mark::Then)),
-        b"else" => Some(Token::Mark(Mark::Else)),
-        _ => None,
-    }
+    words
+        .iter()
+        .find(|entry| entry.0 == word)
+        .map(|entry| entry.1)
 }
 
-// The operator between two operands that the word spells.
-fn infix_word(word: &[u8]) -> Option<Token>
-    ensures { result ≡ find infixes word.now }
-{
-    match word {
-        b"fby" => Some(Token::Infix(Infix::Fby)),
-        b"asa" => Some(Token::Infix(Infix::Asa)),
-        b"or" => Some(Token::Infix(Infix::Or)),
-        b"and" => Some(Token::Infix(Infix::And)),
-        b"eq" => Some(Token::Infix(Infix::Eq)),
-        b"ne" => Some(Token::Infix(Infix::Ne)),
-        b"lt" => Some(Token::Infix(Infix::Lt)),
-        b"le" => Some(Token::Infix(Infix::Le)),
-        b"gt" => Some(Token::Infix(Infix::Gt)),
-        b"ge" => Some(Token::Infix(Infix::Ge)),
-        _ => None,
-    }
-}
-
-// The truth word or channel that the word spells.
-fn atom_word(word: &[u8]) -> Option<Token>
-    ensures { result ≡ find atoms word.now }
-{
-    match word {
-        b"true" => Some(Token::Atom(Atom::Truth(true))),
-        b"false" => Some(Token::Atom(Atom::Truth(false))),
-        b"input" => Some(Token::Atom(Atom::Channel(0))),
-        b"input1" => Some(Token::Atom(Atom::Channel(1))),
-        b"input2" => Some(Token::Atom(Atom::Channel(2))),
-        b"input3" => Some(Token::Atom(Atom::Channel(3))),
-        b"input4" => Some(Token::Atom(Atom::Channel(4))),
-        b"input5" => Some(Token::Atom(Atom::Channel(5))),
-        b"input6" => Some(Token::Atom(Atom::Channel(6))),
-        b"input7" => Some(Token::Atom(Atom::Channel(7))),
-        _ => None,
-    }
-}
-
-// The operator before one operand that the word spells; the minus sign is none of them.
-fn prefix_word(word: &[u8]) -> Option<Token>
-    ensures { result ≡ find prefixes word.now }
-{
-    match word {
-        b"not" => Some(Token::Not),
-        b"first" => Some(Token::First),
-        b"next" => Some(Token::Next),
-        _ => None,
-    }
-}
-
-// The word of the language that small letters and digits spell, if they spell one. A match for each kind of word: with
-// one match over all of them the check gives up on the words that are none.
+// The word of the language that small letters and digits spell, if they spell one.
 fn reserved_word(word: &[u8]) -> Option<Token>
     ensures { result ≡ reserved word.now }
 {
-    mark_word(word)
-        .or_else(|| infix_word(word))
-        .or_else(|| prefix_word(word))
-        .or_else(|| atom_word(word))
+    meaning(&WORDS, word)
 }
 
 // The word in small letters, filled up with zeros.

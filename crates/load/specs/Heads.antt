@@ -1,7 +1,7 @@
 -- Which equation defines a name.
-use Rattle.std.specs.Prelude.{ℕ, Bool, true, false, cond, List, [], ◌∷◌, ◌++◌, Ok, Err, codes, position, ok_or, Option, Result}
+use Rattle.std.specs.Prelude.{ℕ, Bool, true, false, cond, List, [], ◌∷◌, ◌++◌, Ok, Err, codes, bytes_eq, position, ok_or, Option, Result}
 use Rattle.std.specs.Option.{is_some}
-use Rattle.lexer.specs.Lexer.{same, filled}
+use Rattle.lexer.specs.Lexer.{filled}
 use Rattle.lexer.specs.declared.token.Name.{Name}
 use Rattle.lexer.specs.declared.token.Atom.{Atom}
 use Rattle.lexer.specs.declared.token.Atom.TheVariants as atom
@@ -11,7 +11,7 @@ use Rattle.load.specs.declared.refusal.Refusal.TheVariants.{Taken, NoResult}
 
 -- Whether the left side of an equation is the name.
 abbrev pub defines : Name → Atom → Bool
-defines n (atom.Name m) = same m.bytes n.bytes
+defines n (atom.Name m) = bytes_eq m.bytes n.bytes
 defines n (atom.Channel k) = false
 defines n (atom.Literal v) = false
 defines n (atom.Truth b) = false

@@ -1,5 +1,5 @@
 -- The reading that a row's operands decide is that of every sheet that fits.
-use Rattle.std.proofs.Common.{◌≡◌, ℕ, zero, suc, ◌-◌, ◌<◌, List, length, sym, refl, ap, ◌∙◌, inl, inr, arith}
+use Rattle.std.proofs.Common.{◌≡◌, ℕ, zero, suc, ◌-◌, ◌<◌, List, length, get_or, sym, refl, ap, ◌∙◌, inl, inr, arith}
 use Rattle.std.proofs.lemmas.Bool.{cases_lt}
 use Rattle.reading.specs.Faults.{Reading}
 use Rattle.reading.specs.declared.rows.Row.{Row}
@@ -7,12 +7,17 @@ use Rattle.reading.specs.declared.rows.Row.TheVariants.{Literal, Truth, Channel,
 use Rattle.kind.specs.Kinds.{Meaning}
 use Rattle.theory.specs.Says.{Says}
 use Rattle.theory.specs.Rule.{Sheet, Fits, rule, row_at, followed}
-use Rattle.table.specs.Layout.{Layout}
-use Rattle.turns.specs.Reads.{decided, Left, Right, Third, Ready}
+use Rattle.table.specs.Layout.{Layout, place_at}
+use Rattle.turns.specs.Holds.{slot}
+use Rattle.turns.specs.Reads.{Has, decided, Left, Right, Third, Ready}
 
 -- A cell holds one thing.
 pub one_at : {A : Type 0} {cell : A → A} {x y : A} → ((d : A) → cell d ≡ x) → ((d : A) → cell d ≡ y) → x ≡ y
 one_at {x} p q = sym (p x) ∙ q x
+
+-- A window has one reading at a tick.
+pub one_read : {V : Type 0} (l : Layout) (cells : List (Reading V)) (x t : ℕ) (v w : Reading V) → Has l cells x t v → Has l cells x t w → v ≡ w
+one_read l cells x t v w a b = one_at {cell = λ d. get_or cells (slot (place_at l x) t) d} a b
 
 followed-first : {A : Type 0} (x y : ℕ → A) (t : ℕ) → t ≡ 0 → followed x y t ≡ x 0
 followed-first x y zero e = refl
@@ -54,6 +59,7 @@ module _ {V : Type 0} (l : Layout) (k : Meaning V) (says : Says V) (H : ℕ) (σ
   agree (Compute o x y) e f la lb lc ra = congruent (decided k (Compute o x y) r t) {z = c} (one_at la ra.0) (one_at lb ra.1) refl ∙ sym (f t)
   agree (Relate o x y) e f la lb lc ra = congruent (decided k (Relate o x y) r t) {z = c} (one_at la ra.0) (one_at lb ra.1) refl ∙ sym (f t)
 
-  pub agrees : Left l says cells (row_at l.rows r) r t a → Right l cells (row_at l.rows r) t b → Third l cells (row_at l.rows r) t c →
-      Ready l cells σ (row_at l.rows r) r t → decided k (row_at l.rows r) r t a b c ≡ σ r t
-  agrees = agree (row_at l.rows r) refl (fits r is)
+  pub agrees : (row : Row) → row ≡ row_at l.rows r → (v : Reading V) → v ≡ decided k row r t a b c →
+      Left l says cells (row_at l.rows r) r t a → Right l cells (row_at l.rows r) t b → Third l cells (row_at l.rows r) t c →
+      Ready l cells σ (row_at l.rows r) r t → v ≡ σ r t
+  agrees row e v is_v la lb lc ready = (is_v ∙ ap (λ x. decided k x r t a b c) e) ∙ agree (row_at l.rows r) refl (fits r is) la lb lc ready

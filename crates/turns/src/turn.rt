@@ -18,6 +18,7 @@ use table::{Place, View};
 use window::{Window, slot};
 
 /// Writes the reading of tick `t` into a row's window, which is all of these cells.
+// A function of its own: of a window made over a part in place, it is not known what the whole cells then hold.
 fn put<V: Kind>(cells: &mut [Reading<V>], t: u32, reading: Reading<V>)
     ensures { cells.new ≡ slice_set cells.old (t % length cells.old) reading }
 {

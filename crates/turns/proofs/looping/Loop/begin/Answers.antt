@@ -27,7 +27,8 @@ loop-r-preserved g c =
     let room : l.size ≤ length cells = subst (λ x. x.size ≤ length cells) same c.loop-r.self.room in
     elim c.if-searches.branch [
       | then-searches w ↦
-          let s : searching l stage r ≡ true = subst (λ x. searching x stage r ≡ true) same (sym w.if-searches.ensures) in
+          let test : true ≡ searching (laid c.loop-r.self) stage r = w.if-searches.ensures in
+          let s : searching l stage r ≡ true = subst (λ x. searching x stage r ≡ true) same (sym test) in
           let stored = subst (λ x. w.store.new.self.cells.now ≡ set cells (place_at x r).settled w.fault.result) same w.store.ensures.cells in
           let e : c.if-searches.self.cells.now ≡ set cells (place_at l r).settled (born Unreached r 0) =
           ap (λ x. x.cells.now) w.self-is ∙ (stored ∙ ap (set cells (place_at l r).settled) w.fault.ensures) in
@@ -40,7 +41,8 @@ loop-r-preserved g c =
             ap length w.pending-is ∙ (length-set pending r true ∙ inv.4),
           )
       | else-searches w ↦
-          let no-search : searching l stage r ≡ false = subst (λ x. searching x stage r ≡ false) same (sym w.if-searches.ensures) in (
+          let test : false ≡ searching (laid c.loop-r.self) stage r = w.if-searches.ensures in
+          let no-search : searching l stage r ≡ false = subst (λ x. searching x stage r ≡ false) same (sym test) in (
             subst (λ x. Begun l c.if-searches.self.cells.now x stage (n + 1)) (sym w.pending-is)
                 (subst (λ x. Begun l x.cells.now pending stage (n + 1)) (sym w.self-is) (begun-skip l p cells pending stage n r o.0 o.1 no-search inv.0)),
             λ σ h. subst (λ x. Settled l x.cells.now σ (stage - 1)) (sym w.self-is) (inv.1 σ h),

@@ -1,6 +1,7 @@
 use Rattle.std.proofs.Common.{◌≡◌, ◌+◌, ◌<◌, true, false, length, set, sym, subst, rules, ◌∙◌}
 use Rattle.reading.specs.declared.rows.Row.TheVariants.{Asa}
 use Rattle.theory.specs.Rule.{row_at}
+use Rattle.table.specs.Layout.{place_at}
 use Rattle.turns.specs.Loops.{laid}
 use Rattle.turns.specs.Searches.{searching, SoughtRow}
 use Rattle.turns.proofs.Searching.{sides-at, sought-on, sought-found, sought-stays, windows-stay}
@@ -45,7 +46,9 @@ returns-in-Some-clause-sought g c =
     let s : searching l stage r ≡ true = sym c.if-not-searches.ensures in
     let row : row_at l.rows r ≡ Asa x y = sym c.row.ensures ∙ c.in-Asa.is in
     let inside : r < length pending = search rules in
-    subst (λ z. SoughtRow l k stage t r cells pending z (set pending r false)) (sym c.store.ensures.cells)
+    let new = c.store.new.self.cells.now in
+    let stored : new ≡ set cells (place_at l r).settled v = c.store.ensures.cells in
+    subst (λ z. SoughtRow l k stage t r cells pending z (set pending r false)) (sym stored)
     (λ says H σ fits lt held.
     let sides = sides-at l p cells σ stage r x y t c.requires.row s row held in (
       windows-stay l p cells room stage r c.requires.row s v c.args.stage.ok σ (t + l.lag + 1) held,

@@ -1,15 +1,17 @@
 -- The cells of `asa` rows.
-use Rattle.std.proofs.Common.{◌≡◌, ℕ, ◌<◌, Bool, true, false, cond, ◌&&◌, ltb, length, Some, None, refl, ◌∙◌, inl, inr, arith}
+use Rattle.std.proofs.Common.{◌≡◌, ℕ, ◌<◌, Bool, true, false, cond, ◌&&◌, ltb, length, Some, None, Option, sym, refl, subst, inl, inr, arith}
 use Rattle.std.proofs.lemmas.Bool.{cases_eq, and_parts, ltb-true}
 use Rattle.kind.specs.Kinds.{Meaning}
 use Rattle.theory.specs.Says.{Says}
-use Rattle.theory.specs.Rule.{row_at}
+use Rattle.theory.specs.Rule.{Fits, row_at}
 use Rattle.table.specs.Layout.{Layout, Planned, place_at, is_asa}
 use Rattle.turns.proofs.Searching.{cells-differ}
+use Rattle.engine.specs.declared.progress.Progress.{Progress}
 use Rattle.engine.specs.declared.run.Run.{Run}
 use Rattle.engine.specs.Cells.{cell_of, Own, Keeps}
 use Rattle.engine.specs.Law.{Past}
 use Rattle.engine.specs.Tells.{laid, Tells}
+use Rattle.engine.proofs.Lawful.{goes, rests, not_none, same_some}
 
 module _ (l : Layout) (p : Planned l) where
   abbrev held : ℕ → Bool
@@ -38,12 +40,15 @@ module _ (l : Layout) (p : Planned l) where
 
 pub keeps-cell : {V : Type 0} (k : Meaning V) (says : Says V) (run : Run V) (past : Past V) → Planned (laid run) → Tells k says run past → (r : ℕ) →
     Keeps (laid run) k says run.cells.now past r (cell_of (laid run) r)
-keeps-cell k says run past p told r = go (held (laid run) p r) refl
+keeps-cell k says run past p told r = go (held (laid run) p r) refl run.progress refl
   where
-    go : (b : Bool) → held (laid run) p r ≡ b → Keeps (laid run) k says run.cells.now past r (cond b (Some (place_at (laid run) r).settled) None)
-    go true e = λ H σ at fits low t.
+    go : (b : Bool) → held (laid run) p r ≡ b → (o : Option Progress) → run.progress ≡ o → Keeps (laid run) k says run.cells.now past r (cond b (Some (place_at (laid run) r).settled) None)
+    go true e (Some q) at = λ H σ under fits low t.
         let is = its-row (laid run) p r e in
-        let a = told.left in
+        let g = goes k says run past q at told in
+        let same : q.horizon ≡ H = same_some _ q.horizon H g.horizon under in
+        let a = g.left in
         let b = p.staged r is in
-        told.settled H σ (told.horizon ∙ at) fits r is (its-asa (laid run) p r e) (omega arith) t
-    go false e = tt
+        g.settled σ (subst (λ n. Fits (laid run).rows k says n σ) (sym same) fits) r is (its-asa (laid run) p r e) (omega arith) t
+    go true e None at = λ H σ under fits low t. absurd (not_none _ H under (rests k says run past at told))
+    go false e o at = tt

@@ -1,6 +1,6 @@
 -- The cells in which `asa` rows keep their readings.
 use Rattle.std.specs.Prelude.{◌≡◌, ℕ, ◌<◌, ◌≤◌, cond, ◌&&◌, List, length, Some, None, Option, nat_lt}
-use Rattle.reading.specs.declared.faults.Reading.{Reading}
+use Rattle.reading.specs.Faults.{Reading}
 use Rattle.kind.specs.Kinds.{Meaning}
 use Rattle.theory.specs.Says.{Says}
 use Rattle.theory.specs.Rule.{Sheet, Fits, row_at}

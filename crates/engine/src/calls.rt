@@ -41,7 +41,7 @@ pub enum Call {
     Restart,
 }
 
-/// What a call answered.
+/// What an accepted call answered.
 #[derive(Clone, Copy, Drop)]
 pub enum Answer<V> {
     /// How many stages there are to settle.
@@ -50,17 +50,17 @@ pub enum Answer<V> {
     Left(u8),
     /// The tick made, and the reading of `result`.
     Made(u32, Reading<V>),
-    /// The reading looked at.
-    Seen(Reading<V>),
-    /// The window does not have the tick.
-    Absent,
+    /// The reading looked at, if the window has the tick.
+    Seen(Option<Reading<V>>),
     Restarted,
-    Refused(Refusal),
 }
 
-/// A call with its answer.
+/// What a call answered, or why it was refused.
+pub type Reply<V> = Result<Answer<V>, Refusal>;
+
+/// A call with its reply.
 #[derive(Clone, Copy, Drop)]
 pub struct Entry<V> {
     pub call: Call,
-    pub answer: Answer<V>,
+    pub reply: Reply<V>,
 }

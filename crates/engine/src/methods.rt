@@ -1,12 +1,14 @@
 //! The calls of a run.
 
-ghost use Rattle.std.specs.Prelude.{◌≡◌, ◌<◌, true, false, length, is_ok};
+ghost use Rattle.std.specs.Prelude.{◌≡◌, ◌<◌, true, false, length, is_ok, ok_or};
 ghost use Rattle.theory.specs.Says.{Says};
 ghost use Rattle.table.specs.Views.{seen};
 ghost use Rattle.turns.specs.Holds.{At};
+ghost use Rattle.engine.specs.declared.calls.Answer.TheVariants.{Stages, Left, Made, Seen, Restarted};
+ghost use Rattle.engine.specs.declared.calls.Refusal.TheVariants.{NoHorizon};
 ghost use Rattle.engine.specs.declared.calls.Call.TheVariants.{Open, Settle, Step, Look, Restart};
 ghost use Rattle.engine.specs.Cells.{cell_of, Own, Keeps};
-ghost use Rattle.engine.specs.Law.{Past, opened, settled_by, stepped, looked, restarted};
+ghost use Rattle.engine.specs.Law.{Past, answered};
 ghost use Rattle.engine.specs.Tells.{laid, Tells, Lawful, Renewed, Stays};
 
 use crate::calls::Refusal;
@@ -26,31 +28,29 @@ const FARTHEST: u32 = 100000;
 fn cell_of(view: &View<'_>, row: u8) -> Option<usize>
     ensures { result ≡ cell_of (seen view.now) row }
 {
-    if row as usize >= view.rows.len() {
-        return None;
-    }
-    let own = view.rows[row as usize];
-    match own {
-        Row::Asa(_, _) => Some(view.places[row as usize].settled),
+    match view.rows.get(row as usize) {
+        Some(Row::Asa(_, _)) => Some(view.places[row as usize].settled),
         _ => None,
     }
 }
 
 impl<'t, 'c, V: Kind> Run<'t, 'c, V> {
+    /// How far the run has come under the horizon in force.
+    fn progress(&self) -> Result<Progress, Refusal>
+        ensures { result ≡ ok_or self.now.progress NoHorizon }
+    {
+        self.progress.ok_or(Refusal::NoHorizon)
+    }
+
     /// Forgets the ticks made and keeps what is settled.
     pub fn restart(&mut self) -> Result<(), Refusal>
         ensures stays { Stays self.old self.new }
         ensures refused { is_ok result ≡ false → self.new ≡ self.old }
-        ensures law { (says : Says V) → Lawful V.Kind.meaning says self.old self.new Restart (restarted result) }
+        ensures law { (says : Says V) → Lawful V.Kind.meaning says self.old self.new Restart (answered (λ _. Restarted) result) }
     {
-        let Some(horizon) = self.progress.horizon else {
-            return Err(Refusal::NoHorizon);
-        };
-        self.progress = Progress {
-            horizon: Some(horizon),
-            settled: self.progress.settled,
-            made: 0,
-        };
+        let mut progress = self.progress()?;
+        progress.made = 0;
+        self.progress = Some(progress);
         Ok(())
     }
 
@@ -58,8 +58,8 @@ impl<'t, 'c, V: Kind> Run<'t, 'c, V> {
     pub fn open(&mut self, horizon: u32) -> Result<u8, Refusal>
         ensures stays { Stays self.old self.new }
         ensures refused { is_ok result ≡ false → self.new ≡ self.old }
-        ensures law { (says : Says V) → Lawful V.Kind.meaning says self.old self.new (Open horizon) (opened result) }
-        ensures renewed { is_ok result ≡ true → (says says' : Says V) → Renewed V.Kind.meaning says says' self.old self.new (Open horizon) (opened result) }
+        ensures law { (says : Says V) → Lawful V.Kind.meaning says self.old self.new (Open horizon) (answered Stages result) }
+        ensures renewed { is_ok result ≡ true → (says says' : Says V) → Renewed V.Kind.meaning says says' self.old self.new (Open horizon) (answered Stages result) }
     {
         if horizon < 1 || horizon > FARTHEST {
             return Err(Refusal::Horizon);
@@ -69,11 +69,11 @@ impl<'t, 'c, V: Kind> Run<'t, 'c, V> {
             return Err(Refusal::Cells);
         }
         let stages = schedule.stages;
-        self.progress = Progress {
-            horizon: Some(horizon),
+        self.progress = Some(Progress {
+            horizon,
             settled: 0,
             made: 0,
-        };
+        });
         Ok(stages)
     }
 
@@ -81,31 +81,22 @@ impl<'t, 'c, V: Kind> Run<'t, 'c, V> {
     pub fn step<S: Source<V>>(&mut self, source: &S) -> Result<(u32, Reading<V>), Refusal>
         ensures stays { Stays self.old self.new }
         ensures refused { is_ok result ≡ false → self.new ≡ self.old }
-        ensures law { Lawful V.Kind.meaning (S.Source.meaning source.now).says self.old self.new Step (stepped result) }
+        ensures law { Lawful V.Kind.meaning (S.Source.meaning source.now).says self.old self.new Step (answered (λ m. Made m.0 m.1) result) }
     {
-        let Some(horizon) = self.progress.horizon else {
-            return Err(Refusal::NoHorizon);
-        };
+        let mut progress = self.progress()?;
         let view = self.table.view();
-        let settled = self.progress.settled;
-        if settled < view.stages {
+        if progress.settled < view.stages {
             return Err(Refusal::StageLeft);
         }
-        let tick = self.progress.made;
-        if tick >= horizon {
+        let tick = progress.made;
+        if tick >= progress.horizon {
             return Err(Refusal::Over);
-        }
-        if self.cells.len() < view.size {
-            return Err(Refusal::Cells);
         }
         let Some(reading) = make_tick(&view, source, self.cells, tick) else {
             unreachable()
         };
-        self.progress = Progress {
-            horizon: Some(horizon),
-            settled,
-            made: tick + 1,
-        };
+        progress.made += 1;
+        self.progress = Some(progress);
         Ok((tick, reading))
     }
 
@@ -113,37 +104,31 @@ impl<'t, 'c, V: Kind> Run<'t, 'c, V> {
     pub fn settle<S: Source<V>>(&mut self, source: &S) -> Result<u8, Refusal>
         ensures stays { Stays self.old self.new }
         ensures refused { is_ok result ≡ false → self.new ≡ self.old }
-        ensures law { Lawful V.Kind.meaning (S.Source.meaning source.now).says self.old self.new Settle (settled_by result) }
+        ensures law { Lawful V.Kind.meaning (S.Source.meaning source.now).says self.old self.new Settle (answered Left result) }
     {
-        let Some(horizon) = self.progress.horizon else {
-            return Err(Refusal::NoHorizon);
-        };
+        let mut progress = self.progress()?;
         let view = self.table.view();
-        let stages = view.stages;
-        let settled = self.progress.settled;
-        if settled >= stages {
+        if progress.settled >= view.stages {
             return Ok(0);
         }
-        if self.cells.len() < view.size {
-            return Err(Refusal::Cells);
-        }
-        let stage = settled + 1;
-        if !settle_stage(&view, source, self.cells, stage, horizon) {
+        progress.settled += 1;
+        let Some(()) = settle_stage(
+            &view,
+            source,
+            self.cells,
+            progress.settled,
+            progress.horizon,
+        ) else {
             unreachable()
-        }
-        self.progress = Progress {
-            horizon: Some(horizon),
-            settled: stage,
-            made: self.progress.made,
         };
-        Ok(stages - stage)
+        self.progress = Some(progress);
+        Ok(view.stages - progress.settled)
     }
 
     /// The reading in a cell.
-    fn cell(&mut self, i: usize) -> Reading<V>
-        requires { i < length self.old.cells.now }
-        ensures same { self.new ≡ self.old }
-        ensures read { At self.old.cells.now i result }
+    fn cell(&self, i: usize) -> Reading<V>
+        requires { i < length self.now.cells.now }
+        ensures { At self.now.cells.now i result }
     {
         self.cells[i]
     }
@@ -151,24 +136,18 @@ impl<'t, 'c, V: Kind> Run<'t, 'c, V> {
     /// The reading of a row at a tick, where its window has it.
     pub fn look(&mut self, row: u8, tick: u32) -> Result<Option<Reading<V>>, Refusal>
         ensures same { self.new ≡ self.old }
-        ensures law { (says : Says V) → Lawful V.Kind.meaning says self.old self.new (Look row tick) (looked result) }
+        ensures law { (says : Says V) → Lawful V.Kind.meaning says self.old self.new (Look row tick) (answered Seen result) }
     {
-        let Some(horizon) = self.progress.horizon else {
-            return Err(Refusal::NoHorizon);
-        };
+        let progress = self.progress()?;
         let view = self.table.view();
-        if row as usize >= view.rows.len() || tick >= horizon {
+        if row as usize >= view.rows.len() || tick >= progress.horizon {
             return Err(Refusal::Place);
         }
         let place = view.places[row as usize];
-        let made = self.progress.made;
-        let turns = made + view.lag;
+        let turns = progress.made + view.lag;
         let due = tick + place.delay;
-        if made == 0 || due >= turns || (turns - due) as usize > place.depth {
+        if progress.made == 0 || due >= turns || (turns - due) as usize > place.depth {
             return Ok(None);
-        }
-        if self.cells.len() < view.size {
-            return Err(Refusal::Cells);
         }
         Ok(Some(self.cell(place.start + slot(tick, place.depth))))
     }
@@ -179,7 +158,6 @@ impl<'t, 'c, V: Kind> Run<'t, 'c, V> {
         ensures own { Own (laid self.now) row result }
         ensures keeps { (says : Says V) (past : Past V) → Tells V.Kind.meaning says self.now past → Keeps (laid self.now) V.Kind.meaning says self.now.cells.now past row result }
     {
-        let view = self.table.view();
-        cell_of(&view, row)
+        cell_of(&self.table.view(), row)
     }
 }

@@ -1,13 +1,10 @@
 -- What is printed of values, faults and readings, and the lines of a list.
-use Rattle.std.specs.Prelude.{ℕ, Bool, cond, List, [], ◌∷◌, ◌++◌, codes, decimal, to_bits}
-use Rattle.std.specs.Float.{binary64}
+use Rattle.std.specs.Prelude.{ℕ, Bool, cond, List, [], ◌∷◌, ◌++◌, codes, decimal, Ok, Err}
 use Rattle.std.specs.Fmt.{signed_decimal}
 use Rattle.text.specs.Fields.{fields_text}
 use Rattle.text.specs.Hexadecimal.{bits_text}
-use Rattle.reading.specs.Faults.{number_of}
+use Rattle.reading.specs.Faults.{Reading, number_of}
 use Rattle.reading.specs.declared.faults.Fault.{Fault}
-use Rattle.reading.specs.declared.faults.Reading.{Reading}
-use Rattle.reading.specs.declared.faults.Reading.TheVariants as Read
 use Rattle.kind.specs.declared.integer.Integer.{Integer}
 use Rattle.kind.specs.declared.finite.Finite.{Finite}
 use Rattle.kind.specs.declared.values.Value.{Value}
@@ -26,7 +23,7 @@ integer_text n = signed_decimal n.value
 
 -- A rate by the sixteen hexadecimal digits of its bits.
 abbrev pub finite_text : Finite → List ℕ
-finite_text n = bits_text (to_bits binary64 n.value)
+finite_text n = bits_text n.bits
 
 -- A value, by what is printed of a number.
 abbrev pub value_text : {N : Type 0} → (N → List ℕ) → Value N → List ℕ
@@ -50,8 +47,8 @@ fault_text f = fields_text (fault_fields f)
 
 -- A reading, by what is printed of a value.
 abbrev pub reading_text : {V : Type 0} → (V → List ℕ) → Reading V → List ℕ
-reading_text text (Read.Value v) = text v
-reading_text text (Read.Fault f) = fault_text f
+reading_text text (Ok v) = text v
+reading_text text (Err f) = fault_text f
 
 -- The line of a tick, as `2 5`, by what is printed of a value.
 unfoldable pub line_text : {V : Type 0} → (V → List ℕ) → Line V → List ℕ

@@ -39,7 +39,7 @@ impl Shown for Finite {
     ghost text = { finite_text };
 
     fn push_to(&self, out: &mut Text) {
-        out.push_hex(self.bits());
+        out.push_hex(self.bits);
     }
 }
 
@@ -77,8 +77,8 @@ impl<V: Shown> Shown for Reading<V> {
 
     fn push_to(&self, out: &mut Text) {
         match self {
-            Reading::Value(v) => v.push_to(out),
-            Reading::Fault(f) => f.push_to(out),
+            Ok(v) => v.push_to(out),
+            Err(f) => f.push_to(out),
         }
     }
 }

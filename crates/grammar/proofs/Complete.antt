@@ -13,7 +13,7 @@ use Rattle.lexer.specs.declared.token.Token.{Token}
 use Rattle.lexer.specs.declared.token.Token.TheVariants as word
 use Rattle.grammar.specs.Grammar.{levels, prefix_level, choice_level, Tree, leaf, bracket, prefix, infix', choice, level_of, Fits, symbol, words, Equation, body_words, text_words, Nameable, Formed, AllFormed, Viable}
 use Rattle.grammar.specs.Machine.{Frame, group, operand, right, test, branch, other, Spot, due, read, and_then, takes, go_on, close, begin, advance, State, name, equals, inside, ended, whole, whole_at, end_equation, enter, step, run, start, Stops}
-use Rattle.grammar.proofs.Parts.{none-some, refit}
+use Rattle.grammar.proofs.Parts.{refit}
 
 two-levels : (u : Prefix) → (prefix_level u ≡ 10) ⊎ (prefix_level u ≡ 6)
 two-levels Negate = inl refl
@@ -185,4 +185,4 @@ run-append (w ∷ ws) rest s = go (step s w) (run-append ws rest)
 pub not-viable : (ws : List Token) → run start ws ≡ None → Viable ws → ⊥
 not-viable ws e v =
     let t = v.1 in
-    none-some (sym (ap (λ o. and_then o (λ x. run x v.0)) e) ∙ sym (run-append ws v.0 start) ∙ ap (run start) t.written ∙ accepts t.first t.others t.formed.0 t.formed.1)
+    let clash = sym (ap (λ o. and_then o (λ x. run x v.0)) e) ∙ sym (run-append ws v.0 start) ∙ ap (run start) t.written ∙ accepts t.first t.others t.formed.0 t.formed.1 in cc

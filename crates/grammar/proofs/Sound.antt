@@ -12,7 +12,7 @@ use Rattle.lexer.specs.declared.token.Token.{Token}
 use Rattle.lexer.specs.declared.token.Token.TheVariants as word
 use Rattle.grammar.specs.Grammar.{levels, prefix_level, choice_level, Tree, leaf, bracket, prefix, infix', choice, level_of, Fits, symbol, words}
 use Rattle.grammar.specs.Machine.{Frame, group, operand, right, test, branch, other, Spot, due, read, takes, go_on, is, close, minus, begin_prefix, begin_mark, begin, advance}
-use Rattle.grammar.proofs.Parts.{some_is, none-some, picked, only-some, taken, refit}
+use Rattle.grammar.proofs.Parts.{some_is, picked, only-some, taken, refit}
 
 -- An expression of level n in the frames makes a whole expression of level 1.
 abbrev pub Placed : List Frame → ℕ → Type 0
@@ -60,7 +60,7 @@ moved : {a b : List Token} {w : Token} {s : Spot} → a ≡ b → Stepped a w s 
 moved {w} {s} e h = subst (λ l. Stepped l w s) e h
 
 closed : (fs : List Frame) (n : ℕ) (t : Tree) (w : Token) (s : Spot) → close fs t w ≡ Some s → Placed fs n → Fits n t → Stepped (so_far fs ++ words t) w s
-closed [] n t w s e p f = absurd (none-some e)
+closed [] n t w s e p f = cc
 closed (group m ∷ fs) n t w s e p f =
     let o = only-some Close w (read fs m (bracket t)) s e in
     subst (Stepped _ w) o.1 (record {
@@ -122,23 +122,23 @@ due-level (branch m c ∷ fs) n p = omega (arith, p.0)
 due-level (other m c a ∷ fs) n p = omega (arith, p.0)
 
 minus_is : (op : Infix) (u : Prefix) → minus op ≡ Some u → word.Infix op ≡ symbol u
-minus_is Fby u e = absurd (none-some e)
-minus_is Asa u e = absurd (none-some e)
-minus_is Or u e = absurd (none-some e)
-minus_is And u e = absurd (none-some e)
-minus_is Eq u e = absurd (none-some e)
-minus_is Ne u e = absurd (none-some e)
-minus_is Lt u e = absurd (none-some e)
-minus_is Le u e = absurd (none-some e)
-minus_is Gt u e = absurd (none-some e)
-minus_is Ge u e = absurd (none-some e)
-minus_is Add u e = absurd (none-some e)
-minus_is Sub u e = ap symbol (some_is e)
-minus_is Mul u e = absurd (none-some e)
-minus_is Div u e = absurd (none-some e)
+minus_is Fby u e = cc
+minus_is Asa u e = cc
+minus_is Or u e = cc
+minus_is And u e = cc
+minus_is Eq u e = cc
+minus_is Ne u e = cc
+minus_is Lt u e = cc
+minus_is Le u e = cc
+minus_is Gt u e = cc
+minus_is Ge u e = cc
+minus_is Add u e = cc
+minus_is Sub u e = cc
+minus_is Mul u e = cc
+minus_is Div u e = cc
 
 prefixed : (fs : List Frame) (n : ℕ) (w : Token) (s : Spot) (o : Option Prefix) → ((u : Prefix) → o ≡ Some u → w ≡ symbol u) → begin_prefix fs n o ≡ Some s → Placed fs n → Stepped (so_far fs) w s
-prefixed fs n w s None same e p = absurd (none-some e)
+prefixed fs n w s None same e p = cc
 prefixed fs n w s (Some u) same e p =
     let q = picked (leb n (prefix_level u)) (due (operand n u ∷ fs) (prefix_level u)) s e in
     subst (Stepped (so_far fs) w) q.1 (record {
@@ -147,26 +147,26 @@ prefixed fs n w s (Some u) same e p =
     })
 
 marked : (fs : List Frame) (n : ℕ) (m : Mark) (s : Spot) → begin_mark fs n m ≡ Some s → Placed fs n → Stepped (so_far fs) (word.Mark m) s
-marked fs n Compute s e p = absurd (none-some e)
-marked fs n Output s e p = absurd (none-some e)
-marked fs n Where s e p = absurd (none-some e)
-marked fs n End s e p = absurd (none-some e)
+marked fs n Compute s e p = cc
+marked fs n Output s e p = cc
+marked fs n Where s e p = cc
+marked fs n End s e p = cc
 marked fs n If s e p =
     let q = picked (leb n choice_level) (due (test n ∷ fs) choice_level) s e in
     subst (Stepped (so_far fs) (word.Mark If)) q.1 (record { good = (refl, leb-true _ _ q.0, p); more = refl })
-marked fs n Then s e p = absurd (none-some e)
-marked fs n Else s e p = absurd (none-some e)
+marked fs n Then s e p = cc
+marked fs n Else s e p = cc
 marked fs n Open s e p = subst (Stepped (so_far fs) (word.Mark Open)) (some_is e) (record { good = (refl, due-level fs n p, p); more = refl })
-marked fs n Close s e p = absurd (none-some e)
-marked fs n Equals s e p = absurd (none-some e)
-marked fs n Semicolon s e p = absurd (none-some e)
+marked fs n Close s e p = cc
+marked fs n Equals s e p = cc
+marked fs n Semicolon s e p = cc
 
 begun : (fs : List Frame) (n : ℕ) (w : Token) (s : Spot) → begin fs n w ≡ Some s → Placed fs n → Stepped (so_far fs) w s
 begun fs n (word.Atom a) s e p = subst (Stepped (so_far fs) (word.Atom a)) (some_is e) (record { good = (p, due-level fs n p); more = refl })
 begun fs n (word.Infix op) s e p = prefixed fs n (word.Infix op) s (minus op) (minus_is op) e p
-begun fs n word.First s e p = prefixed fs n word.First s (Some First) (λ u i. ap symbol (some_is i)) e p
-begun fs n word.Next s e p = prefixed fs n word.Next s (Some Next) (λ u i. ap symbol (some_is i)) e p
-begun fs n word.Not s e p = prefixed fs n word.Not s (Some Not) (λ u i. ap symbol (some_is i)) e p
+begun fs n word.First s e p = prefixed fs n word.First s (Some First) (λ u i. cc) e p
+begun fs n word.Next s e p = prefixed fs n word.Next s (Some Next) (λ u i. cc) e p
+begun fs n word.Not s e p = prefixed fs n word.Not s (Some Not) (λ u i. cc) e p
 begun fs n (word.Mark m) s e p = marked fs n m s e p
 
 pub advanced : (a : Spot) (w : Token) (s : Spot) → advance a w ≡ Some s → Good a → Stepped (spot-words a) w s

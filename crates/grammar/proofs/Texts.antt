@@ -8,7 +8,7 @@ use Rattle.lexer.specs.declared.token.Token.{Token}
 use Rattle.lexer.specs.declared.token.Token.TheVariants as word
 use Rattle.grammar.specs.Grammar.{Tree, leaf, prefix, infix', choice, Fits, words, Equation, equation_words, body_words, text_words, Nameable, Formed, AllFormed, Viable}
 use Rattle.grammar.specs.Machine.{Frame, group, operand, right, test, branch, other, Spot, due, read, and_then, is, advance, State, header, name, equals, inside, ended, nameable, begin_equation, whole, whole_at, end_equation, enter, after_header, step, run}
-use Rattle.grammar.proofs.Parts.{some_is, none-some, picked, is_true, only-some}
+use Rattle.grammar.proofs.Parts.{some_is, picked, is_true, only-some}
 use Rattle.grammar.proofs.Sound.{Placed, so_far, spot-words, Good, advanced, completed}
 
 abbrev head-words : List Token
@@ -66,27 +66,27 @@ Reached ws (ended es) = Ended ws es
 nameable-is : (a : Atom) → nameable a ≡ true → Nameable a
 nameable-is (atom.Name n) e = tt
 nameable-is (atom.Channel k) e = tt
-nameable-is (atom.Literal v) e = absurd (let z : ◌≡◌ {A = ℕ} 0 1 = cc in omega arith)
-nameable-is (atom.Truth b) e = absurd (let z : ◌≡◌ {A = ℕ} 0 1 = cc in omega arith)
+nameable-is (atom.Literal v) e = cc
+nameable-is (atom.Truth b) e = cc
 
 -- a whole expression, where all frames are complete
 pub whole_is : (fs : List Frame) (n : ℕ) (t r : Tree) → whole fs t ≡ Some r → Placed fs n → Fits n t → (words r ≡ so_far fs ++ words t) × Fits 1 r
 whole_is [] n t r e p f = (ap words (sym (some_is e)), subst (λ x. Fits 1 x) (some_is e) (subst (λ k. Fits k t) p f))
-whole_is (group m ∷ fs) n t r e p f = absurd (none-some e)
+whole_is (group m ∷ fs) n t r e p f = cc
 whole_is (operand m u ∷ fs) n t r e p f =
     let h = whole_is fs m (prefix u t) r e p.2 (p.1, subst (λ k. Fits k t) p.0 f) in
     (h.0 ∙ simp append_assoc, h.1)
 whole_is (right m op l ∷ fs) n t r e p f =
     let h = whole_is fs m (infix' op l t) r e p.3 (p.1, p.2, subst (λ k. Fits k t) p.0 f) in
     (h.0 ∙ simp append_assoc, h.1)
-whole_is (test m ∷ fs) n t r e p f = absurd (none-some e)
-whole_is (branch m c ∷ fs) n t r e p f = absurd (none-some e)
+whole_is (test m ∷ fs) n t r e p f = cc
+whole_is (branch m c ∷ fs) n t r e p f = cc
 whole_is (other m c a ∷ fs) n t r e p f =
     let h = whole_is fs m (choice c a t) r e p.4 (p.1, p.2, p.3, subst (λ k. Fits k t) p.0 f) in
     (h.0 ∙ simp append_assoc, h.1)
 
 whole-at-is : (s : Spot) (r : Tree) → whole_at s ≡ Some r → Good s → (words r ≡ spot-words s) × Fits 1 r
-whole-at-is (due fs n) r e g = absurd (none-some e)
+whole-at-is (due fs n) r e g = cc
 whole-at-is (read fs n t) r e g = whole_is fs n t r e g.0 g.1
 
 headed : (k : Mark) (ks : List Mark) (ws : List Token) → ws ++ word.Mark k ∷ map word.Mark ks ≡ head-words → Reached (ws ++ word.Mark k ∷ []) (after_header ks)
@@ -98,11 +98,11 @@ module _ (ws : List Token) (w : Token) where
   named es (word.Atom a) s i e r =
       let q = picked (nameable a) (equals es a) s e in
       subst (Reached (ws ++ w ∷ [])) q.1 (ap (λ l. l ++ w ∷ []) r.0 ∙ append_assoc head-words (said es) (w ∷ []) ∙ ap (λ v. head-words ++ (said es ++ v ∷ [])) (sym i), r.1, nameable-is a q.0)
-  named es (word.Infix op) s i e r = absurd (none-some e)
-  named es word.First s i e r = absurd (none-some e)
-  named es word.Next s i e r = absurd (none-some e)
-  named es word.Not s i e r = absurd (none-some e)
-  named es (word.Mark m) s i e r = absurd (none-some e)
+  named es (word.Infix op) s i e r = cc
+  named es word.First s i e r = cc
+  named es word.Next s i e r = cc
+  named es word.Not s i e r = cc
+  named es (word.Mark m) s i e r = cc
 
   finished : (es : List Equation) (a : Atom) (t : Tree) (s : State) (b : Bool) → is Semicolon w ≡ b → cond b (Some (name (es ++ record { head = a; tree = t } ∷ []))) (cond (is End w) (Some (ended (es ++ record { head = a; tree = t } ∷ []))) None) ≡ Some s → ws ≡ head-words ++ (said es ++ word.Atom a ∷ word.Mark Equals ∷ words t) → AllFormed es → Nameable a → Fits 1 t → Reached (ws ++ w ∷ []) s
   finished es a t s true b e r all nm f =
@@ -126,7 +126,7 @@ module _ (ws : List Token) (w : Token) where
       })
 
   over : (es : List Equation) (a : Atom) (x : Spot) (o : Option Tree) (s : State) → whole_at x ≡ o → end_equation es a o w ≡ Some s → Reached ws (inside es a x) → Reached (ws ++ w ∷ []) s
-  over es a x None s i e r = absurd (none-some e)
+  over es a x None s i e r = cc
   over es a x (Some t) s i e r =
       let h = whole-at-is x t i r.3 in
       finished es a t s (is Semicolon w) refl e (r.0 ∙ ap (λ l. head-words ++ (said es ++ word.Atom a ∷ word.Mark Equals ∷ l)) (sym h.0)) r.1 r.2 h.1
@@ -144,7 +144,7 @@ module _ (ws : List Token) (w : Token) where
       )
 
   pub stepped : (x s : State) → step x w ≡ Some s → Reached ws x → Reached (ws ++ w ∷ []) s
-  stepped (header []) s e r = absurd (none-some e)
+  stepped (header []) s e r = cc
   stepped (header (k ∷ ks)) s e r =
       let o = only-some k w (after_header ks) s e in
       subst (Reached (ws ++ w ∷ [])) o.1 (subst (λ v. Reached (ws ++ v ∷ []) (after_header ks)) (sym o.0) (headed k ks ws r))
@@ -158,10 +158,10 @@ module _ (ws : List Token) (w : Token) where
         refl,
       )
   stepped (inside es a x) s e r = within es a x (advance x w) s refl e r
-  stepped (ended es) s e r = absurd (none-some e)
+  stepped (ended es) s e r = cc
 
 ran-step : (w : Token) (ws done : List Token) (x s : State) (o : Option State) → step x w ≡ o → and_then o (λ y. run y ws) ≡ Some s → Reached done x → ((y : State) → run y ws ≡ Some s → Reached (done ++ w ∷ []) y → Reached ((done ++ w ∷ []) ++ ws) s) → Reached (done ++ w ∷ ws) s
-ran-step w ws done x s None i e r more = absurd (none-some e)
+ran-step w ws done x s None i e r more = cc
 ran-step w ws done x s (Some y) i e r more = subst (λ l. Reached l s) (append_assoc done (w ∷ []) ws) (more y e (stepped done w x y i r))
 
 pub ran : (ws done : List Token) (x s : State) → run x ws ≡ Some s → Reached done x → Reached (done ++ ws) s

@@ -9,12 +9,7 @@ use Rattle.lexer.specs.declared.token.Prefix.TheVariants.{Negate, First, Next, N
 use Rattle.lexer.specs.declared.token.Mark.TheVariants.{Compute, Output, Where, End, If, Then, Else, Open, Close, Equals, Semicolon}
 use Rattle.lexer.specs.declared.token.Token.{Token}
 use Rattle.lexer.specs.declared.token.Token.TheVariants as word
-
--- An operator's level, and the levels of its left and its right operand.
-pub record Levels : Type 0 where
-  pub own : ℕ
-  pub left : ℕ
-  pub right : ℕ
+use Rattle.grammar.specs.declared.levels.Levels.{Levels}
 
 -- The levels of the operators between two operands.
 abbrev pub levels : Infix → Levels

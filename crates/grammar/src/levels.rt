@@ -2,7 +2,7 @@
 
 ghost use Rattle.std.specs.Prelude.{◌≡◌};
 ghost use Rattle.grammar.specs.Grammar.{levels, prefix_level};
-ghost use Rattle.grammar.specs.Machine.{takes as takes-word, as_prefix, nameable};
+ghost use Rattle.grammar.specs.Machine.{takes, as_prefix, nameable};
 
 use lexer::{Atom, Infix, Prefix, Token};
 
@@ -22,9 +22,7 @@ pub struct Levels {
 
 /// The levels of an operator between two operands.
 pub fn levels_of(op: Infix) -> Levels
-    ensures own { result.own ≡ (levels op).own }
-    ensures left { result.left ≡ (levels op).left }
-    ensures right { result.right ≡ (levels op).right }
+    ensures { result ≡ levels op }
 {
     let (own, left, right) = match op {
         Infix::Fby => (1, 2, 1),
@@ -63,27 +61,18 @@ pub fn prefix_level(op: Prefix) -> u8
 
 /// The operator, if an expression of level `min` whose left side has the level `level` goes on by it.
 pub fn takes(min: u8, level: u8, token: Token) -> Option<Infix>
-    ensures { result ≡ takes-word min level token }
+    ensures { result ≡ takes min level token }
 {
     let Token::Infix(op) = token else {
         return None;
     };
-    let l = levels_of(op);
-    if min <= l.own && l.left <= level {
-        Some(op)
-    } else {
-        None
-    }
+    let levels = levels_of(op);
+    (min <= levels.own && levels.left <= level).then_some(op)
 }
 
 /// Whether an equation may define it: a name or a channel.
 pub fn names(atom: Atom) -> bool
     ensures { result ≡ nameable atom }
 {
-    match atom {
-        Atom::Name(_) => true,
-        Atom::Channel(_) => true,
-        Atom::Literal(_) => false,
-        Atom::Truth(_) => false,
-    }
+    matches!(atom, Atom::Name(_) | Atom::Channel(_))
 }

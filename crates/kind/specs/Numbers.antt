@@ -7,12 +7,13 @@ use Rattle.reading.specs.declared.rows.Arithmetic.{Arithmetic}
 use Rattle.reading.specs.declared.rows.Relation.{Relation}
 use Rattle.reading.specs.declared.rows.Relation.TheVariants.{Equal, Unequal, Less, AtMost, Greater, AtLeast}
 
--- The numbers N of a kind, by what can be asked of them.
-pub record Numbers (N : Type 0) : Type 0 where
+-- The numbers N of a kind, by what can be asked of them; arithmetic and order work on operands O.
+pub record Numbers (N O : Type 0) : Type 0 where
   pub literal : ℕ → N
-  pub negated : N → Result N KindFault
-  pub computed : Arithmetic → N → N → Result N KindFault
-  pub holds : Relation → N → N → Bool
+  pub operand : N → O
+  pub negated : O → Result N KindFault
+  pub computed : Arithmetic → O → O → Result N KindFault
+  pub holds : Relation → O → O → Bool
   pub word : List ℕ → Option N
 
 -- Whether a relation holds, by an equality and an order.

@@ -10,7 +10,6 @@ use Rattle.std.specs.Ordering.{is_lt, is_le, is_gt, is_ge, is_some_and, int_cmp,
 use Rattle.reading.specs.declared.rows.Relation.{Relation}
 use Rattle.reading.specs.declared.rows.Relation.TheVariants.{Equal, Unequal, Less, AtMost, Greater, AtLeast}
 use Rattle.kind.specs.declared.integer.Integer.{Integer}
-use Rattle.kind.specs.declared.finite.Finite.{Finite}
 use Rattle.kind.specs.Numbers.{compared}
 use Rattle.kind.specs.Rates as Rates
 use Rattle.kind.specs.Wholes as Wholes
@@ -85,19 +84,11 @@ at_least false false false f h = refl
 apart : (x y : Float) → T (lt x y) → T (lt y x) → ⊥
 apart x y h k = lt_irrefl x (lt_trans x y x h k)
 
-floats : (r : Relation) (x y : Float) → compared eq float_partial_cmp r x y ≡ Rates.holds r x y
+pub floats_ordered : (r : Relation) (x y : Float) → compared eq float_partial_cmp r x y ≡ Rates.holds r x y
 unfolding ne le
-floats Equal x y = refl
-floats Unequal x y = refl
-floats Less x y = less (lt x y) (eq x y) (lt y x)
-floats AtMost x y = at_most (lt x y) (eq x y) (lt y x)
-floats Greater x y = greater (lt x y) (eq x y) (lt y x) (apart x y) (λ e. eq-not_lt y x (eq_flip x y e))
-floats AtLeast x y = at_least (lt x y) (eq x y) (lt y x) (apart x y) (eq-not_lt x y) ∙ ap (λ (e : Bool). lt y x || e) (floats_per.symm x y)
-
-pub finites_ordered : (r : Relation) (a b : Finite) → compared (λ x y. eq x.value y.value) (λ x y. float_partial_cmp x.value y.value) r a b ≡ Rates.finites.holds r a b
-finites_ordered Equal a b = floats Equal a.value b.value
-finites_ordered Unequal a b = floats Unequal a.value b.value
-finites_ordered Less a b = floats Less a.value b.value
-finites_ordered AtMost a b = floats AtMost a.value b.value
-finites_ordered Greater a b = floats Greater a.value b.value
-finites_ordered AtLeast a b = floats AtLeast a.value b.value
+floats_ordered Equal x y = refl
+floats_ordered Unequal x y = refl
+floats_ordered Less x y = less (lt x y) (eq x y) (lt y x)
+floats_ordered AtMost x y = at_most (lt x y) (eq x y) (lt y x)
+floats_ordered Greater x y = greater (lt x y) (eq x y) (lt y x) (apart x y) (λ e. eq-not_lt y x (eq_flip x y e))
+floats_ordered AtLeast x y = at_least (lt x y) (eq x y) (lt y x) (apart x y) (eq-not_lt x y) ∙ ap (λ (e : Bool). lt y x || e) (floats_per.symm x y)

@@ -29,18 +29,23 @@ abbrev pub told : {N : Type 0} → Value N → Option Bool
 told (Number n) = None
 told (Truth b) = Some b
 
-abbrev pub negated : {N : Type 0} → Numbers N → Value N → Result (Value N) KindFault
-negated numbers (Number n) = answer Number (numbers.negated n)
+-- A value as arithmetic and order take it.
+abbrev pub operand : {N O : Type 0} → Numbers N O → Value N → Value O
+operand numbers (Number n) = Number (numbers.operand n)
+operand numbers (Truth b) = Truth b
+
+abbrev pub negated : {N O : Type 0} → Numbers N O → Value O → Result (Value N) KindFault
+negated numbers (Number x) = answer Number (numbers.negated x)
 negated numbers (Truth b) = Err WrongKind
 
 -- Only of numbers can arithmetic be answered.
-abbrev pub computed : {N : Type 0} → Numbers N → Arithmetic → Value N → Value N → Result (Value N) KindFault
+abbrev pub computed : {N O : Type 0} → Numbers N O → Arithmetic → Value O → Value O → Result (Value N) KindFault
 computed numbers op (Number a) (Number b) = answer Number (numbers.computed op a b)
 computed numbers op (Number a) (Truth q) = Err WrongKind
 computed numbers op (Truth p) (Number b) = Err WrongKind
 computed numbers op (Truth p) (Truth q) = Err WrongKind
 
-abbrev pub related : {N : Type 0} → Numbers N → Relation → Value N → Value N → Result (Value N) KindFault
+abbrev pub related : {N O : Type 0} → Numbers N O → Relation → Value O → Value O → Result (Value N) KindFault
 related numbers r (Number a) (Number b) = Ok (Truth (numbers.holds r a b))
 related numbers r (Number a) (Truth q) = Err WrongKind
 related numbers r (Truth p) (Number b) = Err WrongKind
@@ -51,7 +56,7 @@ told_only (Number n) b e = cc
 told_only (Truth c) b e = cc
 
 -- The kind whose numbers these are.
-abbrev pub values : {N : Type 0} → Numbers N → Meaning (Value N)
+abbrev pub values : {N O : Type 0} → Numbers N O → Meaning (Value N)
 values numbers =
     record {
       literal = λ n. Number (numbers.literal n);
@@ -59,8 +64,8 @@ values numbers =
       told = told;
       told_truth = λ b. refl;
       told_only = told_only;
-      negated = negated numbers;
-      computed = computed numbers;
-      related = related numbers;
+      negated = λ x. negated numbers (operand numbers x);
+      computed = λ op x y. computed numbers op (operand numbers x) (operand numbers y);
+      related = λ r x y. related numbers r (operand numbers x) (operand numbers y);
       word = λ bytes. option_map Number (numbers.word bytes);
     }

@@ -56,10 +56,11 @@ abbrev pub literal : ℕ → Integer
 literal n = record { value = pos (min n 2147483647); within = omega arith }
 
 -- The meaning of the numbers.
-abbrev pub integers : Numbers Integer
+abbrev pub integers : Numbers Integer Integer
 integers =
     record {
       literal = literal;
+      operand = λ n. n;
       negated = λ n. fitted (neg_ℤ n.value);
       computed = λ op a b. calculated op a.value b.value;
       holds = λ r a b. holds r a.value b.value;

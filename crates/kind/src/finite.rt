@@ -1,20 +1,11 @@
-//! Finite binary64 numbers.
+//! Finite binary64 numbers by their bits.
 
-ghost use Rattle.std.specs.Prelude.{◌≡◌, T, to_bits};
+ghost use Rattle.std.specs.Prelude.{T, from_bits};
 ghost use Rattle.std.specs.Float.{float_is_finite, binary64};
 
-/// A finite binary64 number.
-#[derive(Clone, Copy, PartialEq, PartialOrd)]
+/// The bits of a finite binary64 number.
+#[derive(Clone, Copy)]
 pub struct Finite {
-    pub value: f64,
-    ghost finite: { T (float_is_finite value) },
-}
-
-impl Finite {
-    /// The bits of the number.
-    pub fn bits(self) -> u64
-        ensures { result ≡ to_bits binary64 self.value }
-    {
-        self.value.to_bits()
-    }
+    pub bits: u64,
+    ghost number: { T (float_is_finite (from_bits binary64 bits)) },
 }

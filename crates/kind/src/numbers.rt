@@ -6,25 +6,31 @@ ghost use Rattle.kind.specs.Numbers.{Numbers, compared};
 
 use reading::{Arithmetic, KindFault, Relation};
 
-/// The numbers of a kind. `numbers` says what every operation answers, each method answers that, and `==` and `<` are
-/// the relations that it says hold.
-pub trait Number: Copy + PartialOrd {
-    ghost numbers: { Numbers Self };
+/// The numbers of a kind, as they are kept. `numbers` says what every operation answers, each method answers that, and
+/// `==` and `<` of the operands are the relations that it says hold.
+pub trait Number: Copy {
+    /// A number as arithmetic and order take it.
+    type Operand: Copy + PartialOrd;
+
+    ghost numbers: { Numbers Self Self.Operand };
 
     fn literal(n: u32) -> Self
         ensures { result ≡ numbers.literal n };
 
-    fn negate(self) -> Result<Self, KindFault>
-        ensures { result ≡ numbers.negated self };
+    fn operand(self) -> Self::Operand
+        ensures { result ≡ numbers.operand self };
 
-    fn compute(op: Arithmetic, left: Self, right: Self) -> Result<Self, KindFault>
+    fn negate(x: Self::Operand) -> Result<Self, KindFault>
+        ensures { result ≡ numbers.negated x };
+
+    fn compute(op: Arithmetic, left: Self::Operand, right: Self::Operand) -> Result<Self, KindFault>
         ensures { result ≡ numbers.computed op left right };
 
     /// The number that eight bytes stand for.
     fn word(bytes: [u8; 8]) -> Option<Self>
         ensures { result ≡ numbers.word bytes };
 
-    ghost ordered: { (relation : Relations.Relation) (a b : Self) → compared Self.eq Self.partial_cmp relation a b ≡ numbers.holds relation a b };
+    ghost ordered: { (relation : Relations.Relation) (a b : Self.Operand) → compared Self.Operand.eq Self.Operand.partial_cmp relation a b ≡ numbers.holds relation a b };
 }
 
 /// The greatest literal of a text.

@@ -1,7 +1,7 @@
 //! Values: the numbers of a kind, and the truth values.
 
 ghost use Rattle.std.specs.Prelude.{◌≡◌};
-ghost use Rattle.kind.specs.Values.{alike, values};
+ghost use Rattle.kind.specs.Values.{alike, operand, values};
 
 use crate::kinds::Kind;
 use crate::numbers::{Number, hold};
@@ -25,6 +25,18 @@ fn match_truths(relation: Relation, p: bool, q: bool) -> Result<bool, KindFault>
     }
 }
 
+impl<N: Number> Value<N> {
+    /// The value as arithmetic and order take it.
+    fn operand(self) -> Value<N::Operand>
+        ensures { result ≡ operand N.numbers self }
+    {
+        match self {
+            Value::Number(n) => Value::Number(n.operand()),
+            Value::Truth(truth) => Value::Truth(truth),
+        }
+    }
+}
+
 impl<N: Number> Kind for Value<N> {
     ghost meaning = { values N.numbers };
 
@@ -44,21 +56,21 @@ impl<N: Number> Kind for Value<N> {
     }
 
     fn negate(self) -> Result<Value<N>, KindFault> {
-        match self {
-            Value::Number(n) => Ok(Value::Number(n.negate()?)),
+        match self.operand() {
+            Value::Number(x) => Ok(Value::Number(N::negate(x)?)),
             Value::Truth(_) => Err(KindFault::WrongKind),
         }
     }
 
     fn compute(op: Arithmetic, left: Value<N>, right: Value<N>) -> Result<Value<N>, KindFault> {
-        match (left, right) {
+        match (left.operand(), right.operand()) {
             (Value::Number(a), Value::Number(b)) => Ok(Value::Number(N::compute(op, a, b)?)),
             _ => Err(KindFault::WrongKind),
         }
     }
 
     fn relate(relation: Relation, left: Value<N>, right: Value<N>) -> Result<Value<N>, KindFault> {
-        match (left, right) {
+        match (left.operand(), right.operand()) {
             (Value::Number(a), Value::Number(b)) => Ok(Value::Truth(hold(relation, a, b))),
             (Value::Truth(p), Value::Truth(q)) => Ok(Value::Truth(match_truths(relation, p, q)?)),
             _ => Err(KindFault::WrongKind),

@@ -31,6 +31,8 @@ impl TryFrom<i64> for Integer {
 }
 
 impl Number for Integer {
+    type Operand = Integer;
+
     ghost numbers = { integers };
 
     ghost ordered = { integers_ordered };
@@ -41,13 +43,17 @@ impl Number for Integer {
         }
     }
 
-    fn negate(self) -> Result<Integer, KindFault> {
-        Integer::try_from(-(self.value as i64))
+    fn operand(self) -> Integer {
+        self
+    }
+
+    fn negate(n: Integer) -> Result<Integer, KindFault> {
+        Integer::try_from(-i64::from(n.value))
     }
 
     fn compute(op: Arithmetic, left: Integer, right: Integer) -> Result<Integer, KindFault> {
-        let a = left.value as i64;
-        let b = right.value as i64;
+        let a = i64::from(left.value);
+        let b = i64::from(right.value);
         match op {
             Arithmetic::Add => Integer::try_from(a + b),
             Arithmetic::Subtract => Integer::try_from(a - b),

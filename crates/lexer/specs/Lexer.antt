@@ -1,6 +1,8 @@
 -- How bytes make words.
-use Rattle.std.specs.Prelude.{◌≡◌, ℕ, ◌+◌, ◌-◌, ◌*◌, ◌<◌, ◌≤◌, Bool, true, false, cond, ◌&&◌, ◌||◌, List, [], ◌∷◌, ◌++◌, map, length, drop, replicate, Some, None, codes, fold, Option, ◌==◌, nat_le, slice_index, slice_range}
+use Rattle.std.specs.Prelude.{◌≡◌, ℕ, ◌+◌, ◌-◌, ◌*◌, ◌<◌, ◌≤◌, Bool, true, false, cond, ◌&&◌, ◌||◌, List, [], ◌∷◌, ◌++◌, map, length, drop, replicate, Some, None, Ok, Err, codes, fold, unwrap_or, Option, Result, ◌==◌, nat_le, slice_index, slice_range}
+use Rattle.std.specs.Char.{to_ascii_lowercase}
 use Rattle.std.specs.List.{prefix_len}
+use Rattle.std.specs.Option.{option_or}
 use Rattle.lexer.specs.declared.token.Atom.TheVariants as atom
 use Rattle.lexer.specs.declared.token.Infix.TheVariants as op
 use Rattle.lexer.specs.declared.token.Mark.TheVariants as mark
@@ -10,16 +12,16 @@ use Rattle.lexer.specs.declared.lexer.Class.{Class}
 use Rattle.lexer.specs.declared.lexer.Class.TheVariants.{Letter, Digit, Blank, Sign, Other}
 use Rattle.lexer.specs.declared.lexer.Run.{Run}
 use Rattle.lexer.specs.declared.lexer.Run.TheVariants.{Blanks, Number, Name}
-use Rattle.lexer.specs.declared.lexer.Next.{Next}
-use Rattle.lexer.specs.declared.lexer.Next.TheVariants.{Word, Finish, Bad}
+use Rattle.lexer.specs.declared.lexer.Word.{Word}
+use Rattle.lexer.specs.declared.lexer.NotAWord.{NotAWord}
 
 -- Whether the byte lies between two bytes, both counted.
 abbrev pub within : ℕ → ℕ → ℕ → Bool
 within low high b = nat_le low b && nat_le b high
 
 -- The class of a byte.
-abbrev pub class : ℕ → Class
-class b =
+abbrev pub class_of : ℕ → Class
+class_of b =
     cond (within 65 90 b || within 97 122 b) Letter
     (cond (within 48 57 b) Digit
     (cond (b == 32 || (b == 9 || (b == 13 || b == 10))) Blank
@@ -45,15 +47,11 @@ in_run Name Other = false
 
 -- The place after the longest run, from p on.
 unfoldable pub run_end : Run → List ℕ → ℕ → ℕ
-run_end kind bs p = p + prefix_len (λ b. in_run kind (class b)) (drop p bs)
+run_end kind bs p = p + prefix_len (λ b. in_run kind (class_of b)) (drop p bs)
 
 -- The first place from p on with no blank.
 abbrev pub skip : List ℕ → ℕ → ℕ
 skip bs p = run_end Blanks bs p
-
--- A capital is read as its small letter.
-abbrev pub small : ℕ → ℕ
-small b = cond (within 65 90 b) (b + 32) b
 
 -- A name has at most sixteen bytes; it is kept in small letters, filled up with zeros.
 abbrev pub longest : ℕ
@@ -130,23 +128,13 @@ atoms =
     record { spelling = codes "input7"; means = word.Atom (atom.Channel 7) } ∷
     []
 
--- The first word, or else the other.
-abbrev pub or_else : Option Token → Option Token → Option Token
-or_else (Some w) other = Some w
-or_else None other = other
-
 -- The word of the language that small letters and digits spell, if they spell one.
 abbrev pub reserved : List ℕ → Option Token
-reserved bs = or_else (find marks bs) (or_else (find infixes bs) (or_else (find prefixes bs) (find atoms bs)))
+reserved bs = option_or (find marks bs) (option_or (find infixes bs) (option_or (find prefixes bs) (find atoms bs)))
 
--- The word of the language, or else a name of the bytes.
-abbrev pub or_name : Option Token → List ℕ → Token
-or_name (Some w) bs = w
-or_name None bs = word.Atom (atom.Name (record { bytes = bs }))
-
--- What a word of small letters and digits is.
+-- What a word of small letters and digits is: a word of the language, or else a name.
 abbrev pub named : List ℕ → Token
-named bs = or_name (reserved bs) (filled bs)
+named bs = unwrap_or (reserved bs) (word.Atom (atom.Name (record { bytes = filled bs })))
 
 -- The greatest literal.
 abbrev pub greatest : ℕ
@@ -154,7 +142,7 @@ greatest = 2147483647
 
 -- Each byte is a digit.
 abbrev pub Digits : List ℕ → Type 0
-Digits bs = (k : ℕ) → k < length bs → in_run Number (class (slice_index bs k)) ≡ true
+Digits bs = (k : ℕ) → k < length bs → in_run Number (class_of (slice_index bs k)) ≡ true
 
 -- The number that digits are worth.
 abbrev pub value : List ℕ → ℕ
@@ -175,37 +163,48 @@ sign b =
 abbrev pub part : List ℕ → ℕ → ℕ → List ℕ
 part bs p e = slice_range bs p e
 
+-- The word w, which ends before e.
+abbrev pub a_word : Token → ℕ → Word
+a_word w e = record { token = w; end = e }
+
+-- What stands there begins no word.
+abbrev pub not_a_word : NotAWord
+not_a_word = record {}
+
 -- A word of letters and digits from p up to e; too long, it is none.
-abbrev pub name_word : List ℕ → ℕ → ℕ → Next
-name_word bs p e = cond (nat_le (e - p) longest) (Word (named (map small (part bs p e))) e) Bad
+abbrev pub name_word : List ℕ → ℕ → ℕ → Result Word NotAWord
+name_word bs p e = cond (nat_le (e - p) longest) (Ok (a_word (named (map to_ascii_lowercase (part bs p e))) e)) (Err not_a_word)
 
 -- The value of a literal; too great, it is none.
 abbrev pub literal : List ℕ → Option ℕ
 literal bs = cond (nat_le (value bs) greatest) (Some (value bs)) None
 
 -- The word of a literal that ends before e.
-abbrev pub literal_word : Option ℕ → ℕ → Next
-literal_word (Some v) e = Word (word.Atom (atom.Literal v)) e
-literal_word None e = Bad
+abbrev pub literal_word : Option ℕ → ℕ → Result Word NotAWord
+literal_word (Some v) e = Ok (a_word (word.Atom (atom.Literal v)) e)
+literal_word None e = Err not_a_word
 
 -- A word of digits from p up to e.
-abbrev pub number_word : List ℕ → ℕ → ℕ → Next
+abbrev pub number_word : List ℕ → ℕ → ℕ → Result Word NotAWord
 number_word bs p e = literal_word (literal (part bs p e)) e
 
 -- What a byte of the class at p begins.
-abbrev pub word_of : Class → List ℕ → ℕ → Next
+abbrev pub word_of : Class → List ℕ → ℕ → Result Word NotAWord
 word_of Letter bs p = name_word bs p (run_end Name bs p)
 word_of Digit bs p = number_word bs p (run_end Number bs p)
-word_of Blank bs p = Bad
-word_of Sign bs p = Word (sign (slice_index bs p)) (p + 1)
-word_of Other bs p = Bad
+word_of Blank bs p = Err not_a_word
+word_of Sign bs p = Ok (a_word (sign (slice_index bs p)) (p + 1))
+word_of Other bs p = Err not_a_word
 
--- What stands at the place p, which has no blank.
-unfoldable pub scan : List ℕ → ℕ → Next
-scan bs p = cond (nat_le (length bs) p) Finish (word_of (class (slice_index bs p)) bs p)
+-- A word that is found in the text is there.
+abbrev pub found : Result Word NotAWord → Result (Option Word) NotAWord
+found (Ok w) = Ok (Some w)
+found (Err e) = Err e
 
--- A word ends after its first byte, in the text.
-abbrev pub Ends : ℕ → ℕ → Next → Type 0
-Ends p long (Word w e) = (p < e) × (e ≤ long)
-Ends p long Finish = Unit {0}
-Ends p long Bad = Unit {0}
+-- What stands at the place p, which has no blank: a word, nothing at the text's end, or no word.
+unfoldable pub scan : List ℕ → ℕ → Result (Option Word) NotAWord
+scan bs p = cond (nat_le (length bs) p) (Ok None) (found (word_of (class_of (slice_index bs p)) bs p))
+
+-- A word at p ends after its first byte, in a text of that length.
+abbrev pub Ends : ℕ → ℕ → Word → Type 0
+Ends p long w = (p < w.end) × (w.end ≤ long)

@@ -1,7 +1,10 @@
 //! Words of a text, each as long as it can be.
 
-ghost use Rattle.std.specs.Prelude.{◌≡◌, ℕ, ◌+◌, ◌-◌, ◌<◌, ◌≤◌, map, length, slice_index};
-ghost use Rattle.lexer.specs.Lexer.{class as class-at, in_run, run_end, skip as skipped, scan as scanned, small as lowered, sign as sign_word_lem, find, marks, infixes, atoms, prefixes, reserved, longest, filled as filled-up, Digits, literal as literal-of, name_word, number_word, Ends};
+ghost use Rattle.std.specs.Prelude.{◌≡◌, ℕ, ◌+◌, ◌-◌, ◌<◌, ◌≤◌, true, map, length, slice_index, IfOk};
+ghost use Rattle.std.specs.Char.{to_ascii_lowercase};
+ghost use Rattle.std.specs.List.{prefix_len};
+ghost use Rattle.std.specs.Option.{IfSome};
+ghost use Rattle.lexer.specs.Lexer.{class_of, in_run, run_end, skip, scan, sign, find, marks, infixes, atoms, prefixes, reserved, longest, filled, Digits, literal, name_word, number_word, word_of, Ends};
 
 use crate::token::{Atom, Infix, Mark, Name, Token};
 
@@ -15,17 +18,20 @@ pub enum Class {
     Other,
 }
 
-/// What stands at a place: a word and the place after it, the text's end, or no word.
+/// A word of a text, and the place after it.
 #[derive(Clone, Copy)]
-pub enum Next {
-    Word(Token, usize),
-    Finish,
-    Bad,
+pub struct Word {
+    pub token: Token,
+    pub end: usize,
 }
+
+/// What stands at a place begins no word.
+#[derive(Clone, Copy)]
+pub struct NotAWord;
 
 // The class of a byte.
 fn class_of(b: u8) -> Class
-    ensures { result ≡ class-at b }
+    ensures { result ≡ class_of b }
 {
     match b {
         b'A'..=b'Z' | b'a'..=b'z' => Class::Letter,
@@ -55,22 +61,31 @@ fn in_run(run: Run, class: Class) -> bool
     }
 }
 
+// How many bytes at the front belong to a run.
+fn run_len(bytes: &[u8], run: Run) -> usize
+    ensures value { result ≡ prefix_len (λ b. in_run run (class_of b)) bytes.now }
+    ensures within { result ≤ length bytes.now }
+{
+    bytes
+        .iter()
+        .take_while(|b| in_run(run, class_of(**b)))
+        .count()
+}
+
 // The place after the longest run from `at` on; past the text's end, `at` itself.
+#[tactic(auto, using(crate::proofs::Runs::run_past), unfolding(crate::specs::Lexer::run_end))]
 fn run_end(text: &[u8], at: usize, run: Run) -> usize
     ensures value { result ≡ run_end run text.now at }
     ensures low { at ≤ result }
+    ensures past { at < length text.now → in_run run (class_of (slice_index text.now at)) ≡ true → at < result }
     ensures high { result ≤ at + (length text.now - at) }
 {
-    let mut end = at;
-    while end < text.len() && in_run(run, class_of(text[end])) {
-        end += 1;
-    }
-    end
+    at + text.get(at..).map_or(0, |bytes| run_len(bytes, run))
 }
 
 /// The first place from `at` on with no blank; past the text's end, `at` itself.
 pub fn skip(text: &[u8], at: usize) -> usize
-    ensures value { result ≡ skipped text.now at }
+    ensures value { result ≡ skip text.now at }
     ensures low { at ≤ result }
     ensures high { result ≤ at + (length text.now - at) }
 {
@@ -83,16 +98,9 @@ const LONGEST: usize = 16;
 // The greatest literal.
 const GREATEST: u64 = 2147483647;
 
-// A capital as its small letter.
-fn small(b: u8) -> u8
-    ensures { result ≡ lowered b }
-{
-    if b >= b'A' && b <= b'Z' { b + 32 } else { b }
-}
-
 // The word of a sign.
 fn sign(b: u8) -> Token
-    ensures { result ≡ sign_word_lem b }
+    ensures { result ≡ sign b }
 {
     match b {
         b'(' => Token::Mark(Mark::Open),
@@ -172,57 +180,48 @@ fn prefix_word(word: &[u8]) -> Option<Token>
     }
 }
 
-// The word of the language that small letters and digits spell, if they spell one.
+// The word of the language that small letters and digits spell, if they spell one. A match for each kind of word: with
+// one match over all of them the check gives up on the words that are none.
 fn reserved_word(word: &[u8]) -> Option<Token>
     ensures { result ≡ reserved word.now }
 {
-    if let Some(token) = mark_word(word) {
-        return Some(token);
-    }
-    if let Some(token) = infix_word(word) {
-        return Some(token);
-    }
-    if let Some(token) = prefix_word(word) {
-        return Some(token);
-    }
-    atom_word(word)
+    mark_word(word)
+        .or_else(|| infix_word(word))
+        .or_else(|| prefix_word(word))
+        .or_else(|| atom_word(word))
 }
 
 // The word in small letters, filled up with zeros.
 fn filled(word: &[u8]) -> [u8; LONGEST]
     requires { length word.now ≤ longest }
-    ensures { result ≡ filled-up (map lowered word.now) }
+    ensures { result ≡ filled (map to_ascii_lowercase word.now) }
 {
     let mut bytes = [0; LONGEST];
-    for (i, b) in word.iter().enumerate() {
-        bytes[i] = small(*b);
-    }
-    bytes
+    bytes[..word.len()].copy_from_slice(word);
+    bytes.map(|b| b.to_ascii_lowercase())
 }
 
 // A name or a word of the language, which starts at `at`.
-fn name_at(text: &[u8], at: usize) -> Next
+fn name_at(text: &[u8], at: usize) -> Result<Word, NotAWord>
     requires within { at < length text.now }
-    requires letter { class-at (slice_index text.now at) ≡ Class.Letter }
+    requires letter { class_of (slice_index text.now at) ≡ Class.Letter }
     ensures value { result ≡ name_word text.now at (run_end Run.Name text.now at) }
-    ensures ends { Ends at (length text.now) result }
+    ensures ends { IfOk result (Ends at (length text.now)) }
 {
     let end = run_end(text, at, Run::Name);
     if end - at > LONGEST {
-        return Next::Bad;
+        return Err(NotAWord);
     }
     let bytes = filled(&text[at..end]);
-    let token = match reserved_word(&bytes[..end - at]) {
-        Some(token) => token,
-        None => Token::Atom(Atom::Name(Name { bytes })),
-    };
-    Next::Word(token, end)
+    let name = Token::Atom(Atom::Name(Name { bytes }));
+    let token = reserved_word(&bytes[..end - at]).unwrap_or(name);
+    Ok(Word { token, end })
 }
 
 // What the digits are worth, if it is not too great.
 fn literal(digits: &[u8]) -> Option<u32>
     requires { Digits digits.now }
-    ensures { result ≡ literal-of digits.now }
+    ensures { result ≡ literal digits.now }
 {
     let mut value: u64 = 0;
     for b in digits {
@@ -235,31 +234,44 @@ fn literal(digits: &[u8]) -> Option<u32>
 }
 
 // A literal, which starts at `at`.
-fn number_at(text: &[u8], at: usize) -> Next
+fn number_at(text: &[u8], at: usize) -> Result<Word, NotAWord>
     requires within { at < length text.now }
-    requires digit { class-at (slice_index text.now at) ≡ Class.Digit }
+    requires digit { class_of (slice_index text.now at) ≡ Class.Digit }
     ensures value { result ≡ number_word text.now at (run_end Run.Number text.now at) }
-    ensures ends { Ends at (length text.now) result }
+    ensures ends { IfOk result (Ends at (length text.now)) }
 {
     let end = run_end(text, at, Run::Number);
-    match literal(&text[at..end]) {
-        Some(value) => Next::Word(Token::Atom(Atom::Literal(value)), end),
-        None => Next::Bad,
-    }
+    let value = literal(&text[at..end]).ok_or(NotAWord)?;
+    let token = Token::Atom(Atom::Literal(value));
+    Ok(Word { token, end })
 }
 
-/// What stands at a place with no blank.
-pub fn scan(text: &[u8], at: usize) -> Next
-    ensures value { result ≡ scanned text.now at }
-    ensures ends { Ends at (length text.now) result }
+// The word at a place in the text.
+fn word_at(text: &[u8], at: usize) -> Result<Word, NotAWord>
+    requires { at < length text.now }
+    ensures value { result ≡ word_of (class_of (slice_index text.now at)) text.now at }
+    ensures ends { IfOk result (Ends at (length text.now)) }
 {
-    if at >= text.len() {
-        return Next::Finish;
-    }
     match class_of(text[at]) {
         Class::Letter => name_at(text, at),
         Class::Digit => number_at(text, at),
-        Class::Sign => Next::Word(sign(text[at]), at + 1),
-        Class::Blank | Class::Other => Next::Bad,
+        Class::Sign => Ok(Word {
+            token: sign(text[at]),
+            end: at + 1,
+        }),
+        Class::Blank | Class::Other => Err(NotAWord),
+    }
+}
+
+/// The word at a place with no blank; none at the text's end.
+#[tactic(auto, unfolding(crate::specs::Lexer::scan))]
+pub fn scan(text: &[u8], at: usize) -> Result<Option<Word>, NotAWord>
+    ensures value { result ≡ scan text.now at }
+    ensures ends { IfOk result (λ found. IfSome found (Ends at (length text.now))) }
+{
+    if at < text.len() {
+        Ok(Some(word_at(text, at)?))
+    } else {
+        Ok(None)
     }
 }

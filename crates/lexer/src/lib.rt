@@ -5,5 +5,5 @@
 mod lexer;
 mod token;
 
-pub use lexer::{Next, scan, skip};
+pub use lexer::{NotAWord, Word, scan, skip};
 pub use token::{Atom, Infix, Mark, Name, Prefix, Token};

@@ -66,7 +66,7 @@ fn push_list<K: Recorded + Shown + Clone>(
 ) -> Result<(), AllocError>
     ensures { OnOk result (Appended (Runs K.Kind.meaning K.Shown.text (code_of K.Recorded.KIND) table.now.schedule recording.now) out.old out.new) }
 {
-    let mut cells = vec![in heap; Reading::<K>::Fault(UNREAD); table.schedule.size]?;
+    let mut cells = vec![in heap; Reading::<K>::Err(UNREAD); table.schedule.size]?;
     let tried = push_recorded(table, recording, &mut cells, out);
     push_refusal(tried, out);
     Ok(())

@@ -1,8 +1,9 @@
 -- Every row that is read stands in the table. Assumes nothing.
-use Rattle.std.proofs.Common.{◌≡◌, ℕ, ◌+◌, ◌<◌, ◌≤◌, Bool, true, false, cond, ltb, List, [], ◌∷◌, map, length, Some, None, Option, sym, ap, ◌∙◌, subst, arith}
-use Rattle.std.specs.List.{AllByRecursion}
-use Rattle.std.proofs.ByRecursion.{All-get_or, All-append, All-map}
-use Rattle.std.proofs.lemmas.List.{length-append, length-map}
+use Rattle.std.proofs.Common.{◌≡◌, ℕ, ◌+◌, ◌<◌, ◌≤◌, Bool, ltb, List, [], ◌∷◌, length, Some, None, sym, subst, arith}
+use Rattle.std.specs.List.{AllByRecursion, position_or_len}
+use Rattle.std.specs.Prelude.{unwrap_or}
+use Rattle.std.proofs.ByRecursion.{All-get_or, All-map}
+use Rattle.std.proofs.lemmas.List.{length-map}
 use Rattle.std.proofs.lemmas.Bool.{cond_both, ltb-true}
 use Rattle.lexer.specs.declared.token.Name.{Name}
 use Rattle.lexer.specs.declared.token.Infix.{Infix}
@@ -18,20 +19,15 @@ use Rattle.syntax.specs.declared.draft.Node.{Node}
 use Rattle.syntax.specs.declared.draft.Node.TheVariants as node
 use Rattle.syntax.specs.declared.draft.Operand.{Operand}
 use Rattle.syntax.specs.declared.draft.Operand.TheVariants as operand
-use Rattle.load.specs.Heads.{defines, found_from, found, Within}
-use Rattle.load.specs.Rows.{or_zero, operand_row, prefix_row, infix_row, node_row, equation_rows, table_rows}
+use Rattle.load.specs.Heads.{defines, found}
+use Rattle.load.specs.Rows.{operand_row, prefix_row, infix_row, node_row, table_rows}
 
-either-within : (b : Bool) (m : ℕ) (x y : Option ℕ) → Within m x → Within m y → Within m (cond b x y)
-either-within true m x y p q = p
-either-within false m x y p q = q
-
-found-low : (m k : ℕ) (n : Name) (es : List Equation) → k + length es ≤ m → Within m (found_from k n es)
-found-low m k n [] h = tt
-found-low m k n (e ∷ es) h = either-within (defines n e.head) m (Some k) (found_from (k + 1) n es) (omega arith) (found-low m (k + 1) n es (omega arith))
-
-or-zero-low : (m : ℕ) (o : Option ℕ) → 0 < m → Within m o → or_zero o < m
-or-zero-low m None h w = h
-or-zero-low m (Some k) h w = w
+-- The equation that is found is one of them.
+found-low : (n : Name) (es : List Equation) (count : ℕ) → 0 < count → length es ≤ count → unwrap_or (found n es) 0 < count
+found-low n es count h l =
+    let p : Equation → Bool = λ e. defines n e.head in
+    let m = position_or_len p es in
+    cond_both (ltb m (length es)) (Some m) None (λ o. unwrap_or o 0 < count) (λ e. let k = ltb-true _ _ e in omega arith) (λ e. h)
 
 -- A row reads only rows below the count.
 abbrev pub ReadsBelow : ℕ → Row → Type 0
@@ -60,8 +56,8 @@ infix-below count between.Mul x y h k = (h, (k, tt))
 infix-below count between.Div x y h k = (h, (k, tt))
 
 module _ (es : List Equation) (count : ℕ) (some : 0 < count) (few : length es ≤ count) where
-  name-low : (n : Name) → or_zero (found n es) < count
-  name-low n = or-zero-low count (found n es) some (found-low count 0 n es (omega arith))
+  name-low : (n : Name) → unwrap_or (found n es) 0 < count
+  name-low n = found-low n es count some few
 
   operand_low : (o : Operand) → operand_row es count o < count
   operand_low (operand.Name n p) = name-low n
@@ -80,22 +76,12 @@ every : {X : Type 0} (P : X → Type 0) → ((x : X) → P x) → (xs : List X) 
 every P f [] = tt
 every P f (x ∷ xs) = (f x, every P f xs)
 
-pub length-table-rows : (es : List Equation) (ns : List Node) → length (table_rows es ns) ≡ length es + length ns
-length-table-rows es ns =
-    let count = length es + length ns in
-    length-append (equation_rows es count es) (map (node_row es count) ns)
-    ∙ ap (λ x. x + length (map (node_row es count) ns)) (length-map es (λ e. node_row es count e.node))
-    ∙ ap (λ x. length es + x) (length-map ns (node_row es count))
+pub closed_rows : (es : List Equation) (xs : List Node) → 0 < length es → length es ≤ length xs → Closed (table_rows es xs)
+closed_rows es xs h l =
+    let count = length xs in
+    let all : AllByRecursion (ReadsBelow count) (table_rows es xs) =
+    All-map (ReadsBelow count) (node_row es count) xs (every (λ x. ReadsBelow count (node_row es count x)) (node-below es count (omega arith) l) xs) in
+    λ r k. All-get_or (ReadsBelow (length (table_rows es xs))) (table_rows es xs) r (Literal 0) k (subst (λ n. AllByRecursion (ReadsBelow n) (table_rows es xs)) (sym (length-map xs (node_row es count))) all)
 
-pub closed-rows : (es : List Equation) (ns : List Node) → 0 < length es → Closed (table_rows es ns)
-closed-rows es ns h =
-    let count = length es + length ns in
-    let below = node-below es count (omega arith) (omega arith) in
-    let all : AllByRecursion (ReadsBelow count) (table_rows es ns) =
-    All-append (ReadsBelow count) (equation_rows es count es) (map (node_row es count) ns)
-    (All-map (ReadsBelow count) (λ e. node_row es count e.node) es (every (λ e. ReadsBelow count (node_row es count e.node)) (λ e. below e.node) es))
-    (All-map (ReadsBelow count) (node_row es count) ns (every (λ x. ReadsBelow count (node_row es count x)) below ns)) in
-    λ r l. All-get_or (ReadsBelow (length (table_rows es ns))) (table_rows es ns) r (Literal 0) l (subst (λ n. AllByRecursion (ReadsBelow n) (table_rows es ns)) (sym (length-table-rows es ns)) all)
-
-pub closed-table : (es : List Equation) (ns : List Node) (rows : List Row) → rows ≡ table_rows es ns → 0 < length es → Closed rows
-closed-table es ns rows e h = subst (λ x. Closed x) (sym e) (closed-rows es ns h)
+pub closed_table : (es : List Equation) (xs : List Node) (rows : List Row) → rows ≡ table_rows es xs → 0 < length es → length es ≤ length xs → Closed rows
+closed_table es xs rows e h l = subst (λ x. Closed x) (sym e) (closed_rows es xs h l)

@@ -1,3 +1,2 @@
-pub mod Walks
 pub mod Closings
 pub mod Passes

@@ -1,5 +1,6 @@
 -- Which equation defines a name.
-use Rattle.std.specs.Prelude.{ℕ, ◌+◌, ◌<◌, Bool, true, false, cond, List, [], ◌∷◌, ◌++◌, Some, None, Ok, Err, codes, Option, Result}
+use Rattle.std.specs.Prelude.{ℕ, Bool, true, false, cond, List, [], ◌∷◌, ◌++◌, Ok, Err, codes, position, ok_or, Option, Result}
+use Rattle.std.specs.Option.{is_some}
 use Rattle.lexer.specs.Lexer.{same, filled}
 use Rattle.lexer.specs.declared.token.Name.{Name}
 use Rattle.lexer.specs.declared.token.Atom.{Atom}
@@ -15,28 +16,13 @@ defines n (atom.Channel k) = false
 defines n (atom.Literal v) = false
 defines n (atom.Truth b) = false
 
--- The number of the first equation that defines the name, where the first of the list has the number k.
-abbrev pub found_from : ℕ → Name → List Equation → Option ℕ
-found_from k n [] = None
-found_from k n (e ∷ es) = cond (defines n e.head) (Some k) (found_from (k + 1) n es)
-
 -- The number of the first equation that defines the name.
 abbrev pub found : Name → List Equation → Option ℕ
-found n es = found_from 0 n es
-
--- A number, if there is one, is below n.
-abbrev pub Within : ℕ → Option ℕ → Type 0
-Within n None = Unit {0}
-Within n (Some k) = k < n
-
--- Whether there is one.
-abbrev pub some : Option ℕ → Bool
-some None = false
-some (Some k) = true
+found n es = position (λ e. defines n e.head) es
 
 -- Whether the left side of an equation is a channel, or a name that one of the equations before it defines.
 abbrev pub clashes : List Equation → Atom → Bool
-clashes before (atom.Name n) = some (found n before)
+clashes before (atom.Name n) = is_some (found n before)
 clashes before (atom.Channel k) = true
 clashes before (atom.Literal v) = true
 clashes before (atom.Truth b) = true
@@ -52,10 +38,4 @@ result_name = record { bytes = filled (codes "result") }
 
 -- The row of `result`, or a refusal at `end`.
 abbrev pub or_none : ℕ → Option ℕ → Result ℕ Refusal
-or_none end None = Err (NoResult end)
-or_none end (Some k) = Ok k
-
--- A row, if there is one, is below n.
-abbrev pub RowWithin : ℕ → Result ℕ Refusal → Type 0
-RowWithin n (Ok k) = k < n
-RowWithin n (Err r) = Unit {0}
+or_none end o = ok_or o (NoResult end)

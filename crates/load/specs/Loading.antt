@@ -15,7 +15,7 @@ use Rattle.load.specs.Refusals.{from_reading}
 use Rattle.load.specs.Heads.{found, heads_from, result_name, or_none}
 use Rattle.load.specs.Sizes.{few, operand_count}
 use Rattle.load.specs.Uses.{used}
-use Rattle.load.specs.Rows.{table_rows}
+use Rattle.load.specs.Rows.{nodes_of, table_rows}
 
 -- A step that is refused ends the work with its refusal; else what follows it holds of the answer.
 abbrev pub then : {A B : Type 0} → Result A Refusal → (A → Result B Refusal → Type 0) → Result B Refusal → Type 0
@@ -35,8 +35,9 @@ Tabled d es r =
     then (operand_count es) (λ n.
     then (heads_from [] es) (λ u.
     then (or_none d.end (found result_name es)) (λ k.
-    then (used es (take n d.operands)) (λ v.
-    Ended (table_rows es (take n d.operands)) k))))) r
+    let xs = nodes_of es (take n d.operands) in
+    then (used es xs) (λ v.
+    Ended (table_rows es xs) k))))) r
 
 -- What is made of the reader's answer.
 abbrev pub Made : Result Draft ReadingRefusal → Result Table Refusal → Type 0

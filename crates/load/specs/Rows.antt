@@ -1,5 +1,5 @@
 -- The rows of a text.
-use Rattle.std.specs.Prelude.{ℕ, ◌+◌, cond, List, ◌++◌, map, length, Some, None, Option, nat_lt}
+use Rattle.std.specs.Prelude.{ℕ, ◌+◌, cond, List, ◌++◌, map, length, unwrap_or, nat_lt}
 use Rattle.lexer.specs.declared.token.Infix.{Infix}
 use Rattle.lexer.specs.declared.token.Infix.TheVariants as between
 use Rattle.lexer.specs.declared.token.Prefix.{Prefix}
@@ -15,15 +15,10 @@ use Rattle.syntax.specs.declared.draft.Operand.{Operand}
 use Rattle.syntax.specs.declared.draft.Operand.TheVariants as operand
 use Rattle.load.specs.Heads.{found}
 
--- The row that was found, or else row 0.
-abbrev pub or_zero : Option ℕ → ℕ
-or_zero None = 0
-or_zero (Some k) = k
-
 -- The row of an operand, in a table of that many rows: the equation of a name, or an operand row, which stands after the
 -- equations' rows. What has no row is row 0.
 abbrev pub operand_row : List Equation → ℕ → Operand → ℕ
-operand_row es count (operand.Name n p) = or_zero (found n es)
+operand_row es count (operand.Name n p) = unwrap_or (found n es) 0
 operand_row es count (operand.Row k) = cond (nat_lt (length es + k) count) (length es + k) 0
 
 -- The row of an operator before its operand.
@@ -52,7 +47,7 @@ infix_row between.Div x y = row.Compute arithmetic.Divide x y
 
 -- The row of a node. A bare name reads that name's row.
 abbrev pub node_row : List Equation → ℕ → Node → Row
-node_row es count (node.Name n p) = row.Same (or_zero (found n es))
+node_row es count (node.Name n p) = row.Same (unwrap_or (found n es) 0)
 node_row es count (node.Channel k) = row.Channel k
 node_row es count (node.Literal v) = row.Literal v
 node_row es count (node.Truth b) = row.Truth b
@@ -60,12 +55,10 @@ node_row es count (node.Prefix u a) = prefix_row u (operand_row es count a)
 node_row es count (node.Infix op a b) = infix_row op (operand_row es count a) (operand_row es count b)
 node_row es count (node.Choice a b c) = row.If (operand_row es count a) (operand_row es count b) (operand_row es count c)
 
--- The equations' own rows.
-abbrev pub equation_rows : List Equation → ℕ → List Equation → List Row
-equation_rows es count fs = map (λ e. node_row es count e.node) fs
+-- The nodes of all rows: the equations' own, and then the operands'.
+abbrev pub nodes_of : List Equation → List Node → List Node
+nodes_of es ns = map (λ e. e.node) es ++ ns
 
--- All rows: the equations' own, and then the operands'.
+-- The rows of the nodes.
 abbrev pub table_rows : List Equation → List Node → List Row
-table_rows es ns =
-    let count = length es + length ns in
-    equation_rows es count es ++ map (node_row es count) ns
+table_rows es xs = map (node_row es (length xs)) xs

@@ -1,5 +1,5 @@
 -- How many rows a text may have.
-use Rattle.std.specs.Prelude.{ℕ, ◌+◌, ◌-◌, ◌≤◌, cond, List, [], ◌∷◌, length, Some, None, Ok, Err, Option, Result, nat_lt}
+use Rattle.std.specs.Prelude.{ℕ, ◌-◌, cond, List, [], ◌∷◌, length, Some, None, Ok, Err, Option, Result, nat_lt}
 use Rattle.syntax.specs.declared.draft.Equation.{Equation}
 use Rattle.load.specs.declared.refusal.Refusal.{Refusal}
 use Rattle.load.specs.declared.refusal.Refusal.TheVariants.{TooMany}
@@ -21,8 +21,3 @@ few (Some p) = Err (TooMany p)
 -- The number of operand rows; else the equation in which the first row too many arises is refused.
 abbrev pub operand_count : List Equation → Result ℕ Refusal
 operand_count es = counted (row_limit - length es) 0 es
-
--- The rows of n equations and of their operands are not too many.
-abbrev pub Room : ℕ → Result ℕ Refusal → Type 0
-Room n (Ok m) = n + m ≤ row_limit
-Room n (Err r) = Unit {0}

@@ -1,5 +1,5 @@
 -- Names that are used and never defined.
-use Rattle.std.specs.Prelude.{ℕ, cond, List, Some, None, Ok, Err, fold, Option, Result, nat_le}
+use Rattle.std.specs.Prelude.{ℕ, List, Some, None, Ok, Err, map, min, fold, Option, Result}
 use Rattle.syntax.specs.declared.draft.Equation.{Equation}
 use Rattle.syntax.specs.declared.draft.Node.{Node}
 use Rattle.syntax.specs.declared.draft.Node.TheVariants as node
@@ -23,7 +23,7 @@ unknown es (operand.Row k) = None
 abbrev pub earlier : Option ℕ → Option ℕ → Option ℕ
 earlier None q = q
 earlier (Some p) None = Some p
-earlier (Some p) (Some q) = Some (cond (nat_le p q) p q)
+earlier (Some p) (Some q) = Some (min p q)
 
 -- The earliest place where a node uses a name that no equation defines.
 abbrev pub unknown_in : List Equation → Node → Option ℕ
@@ -35,19 +35,11 @@ unknown_in es (node.Prefix u a) = unknown es a
 unknown_in es (node.Infix op a b) = earlier (unknown es a) (unknown es b)
 unknown_in es (node.Choice a b c) = earlier (earlier (unknown es a) (unknown es b)) (unknown es c)
 
--- The earliest of the place `first` and those in the nodes.
-abbrev pub unknown_rows : List Equation → Option ℕ → List Node → Option ℕ
-unknown_rows es first ns = fold (λ q n. earlier q (unknown_in es n)) first ns
-
--- The earliest in the equations' own nodes.
-abbrev pub unknown_heads : List Equation → List Equation → Option ℕ
-unknown_heads es fs = fold (λ q e. earlier q (unknown_in es e.node)) None fs
-
 -- The use at the place is refused.
 abbrev pub refused_use : Option ℕ → Result (Unit {0}) Refusal
 refused_use None = Ok tt
 refused_use (Some p) = Err (Undefined p)
 
--- The earliest use of a name that no equation defines is refused.
+-- The earliest use of a name that no equation defines is refused, in the nodes of the rows.
 abbrev pub used : List Equation → List Node → Result (Unit {0}) Refusal
-used es ns = refused_use (unknown_rows es (unknown_heads es es) ns)
+used es xs = refused_use (fold earlier None (map (unknown_in es) xs))

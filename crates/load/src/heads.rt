@@ -1,7 +1,8 @@
 //! The left sides of the equations.
 
-ghost use Rattle.std.specs.Prelude.{◌≡◌, ◌<◌, ◌≤◌, [], length};
-ghost use Rattle.load.specs.Heads.{defines as defines-name, found, Within, RowWithin, clashes as clashes-with, heads_from, result_name, or_none};
+ghost use Rattle.std.specs.Prelude.{◌≡◌, ◌<◌, ◌≤◌, [], length, IfOk};
+ghost use Rattle.std.specs.Option.{IfSome};
+ghost use Rattle.load.specs.Heads.{defines, found, clashes, heads_from, result_name, or_none};
 
 use crate::refusal::Refusal;
 use lexer::{Atom, Name};
@@ -9,36 +10,27 @@ use syntax::Equation;
 
 /// Whether the left side of an equation is the name.
 fn defines(head: Atom, name: Name) -> bool
-    ensures { result ≡ defines-name name head }
+    ensures { result ≡ defines name head }
 {
-    match head {
-        Atom::Name(own) => own == name,
-        _ => false,
-    }
+    matches!(head, Atom::Name(own) if own == name)
 }
 
 /// The number of the first equation that defines the name.
 pub(crate) fn find(equations: &[Equation], name: Name) -> Option<usize>
     ensures value { result ≡ found name equations.now }
-    ensures within { Within (length equations.now) result }
+    ensures within { IfSome result (λ k. k < length equations.now) }
 {
-    for (k, equation) in equations.iter().enumerate() {
-        if defines(equation.head, name) {
-            return Some(k);
-        }
-    }
-    None
+    equations
+        .iter()
+        .position(|equation| defines(equation.head, name))
 }
 
 /// Whether the left side is a channel, or a name that is defined before.
 fn clashes(before: &[Equation], head: Atom) -> bool
-    ensures { result ≡ clashes-with before.now head }
+    ensures { result ≡ clashes before.now head }
 {
     match head {
-        Atom::Name(name) => match find(before, name) {
-            Some(_) => true,
-            None => false,
-        },
+        Atom::Name(name) => find(before, name).is_some(),
         _ => true,
     }
 }
@@ -59,14 +51,10 @@ const RESULT: Name = Name {
     bytes: *b"result\0\0\0\0\0\0\0\0\0\0",
 };
 
-/// The row of `result`; without one the text is refused at its `end`.
-pub(crate) fn find_result(equations: &[Equation], end: usize) -> Result<u8, Refusal>
-    requires { length equations.now ≤ 64 }
+/// The number of the equation of `result`; without one the text is refused at its `end`.
+pub(crate) fn find_result(equations: &[Equation], end: usize) -> Result<usize, Refusal>
     ensures value { result ≡ or_none end (found result_name equations.now) }
-    ensures within { RowWithin (length equations.now) result }
+    ensures within { IfOk result (λ k. k < length equations.now) }
 {
-    match find(equations, RESULT) {
-        Some(row) => Ok(row as u8),
-        None => Err(Refusal::NoResult(end)),
-    }
+    find(equations, RESULT).ok_or(Refusal::NoResult(end))
 }

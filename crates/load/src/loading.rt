@@ -4,7 +4,7 @@ ghost use Rattle.load.specs.Loading.{Loaded};
 
 use crate::heads::{check_heads, find_result};
 use crate::refusal::Refusal;
-use crate::rows::table_rows;
+use crate::rows::{nodes_of, table_rows};
 use crate::sizes::{check_count, count_operands};
 use crate::uses::check_uses;
 use syntax::parse;
@@ -20,11 +20,9 @@ pub fn load(text: &[u8]) -> Result<Table, Refusal>
     let count = count_operands(equations)?;
     check_heads(equations)?;
     let result = find_result(equations, draft.end)?;
-    let operands = &draft.operands[..count];
-    check_uses(equations, operands)?;
-    let rows = table_rows(equations, operands);
-    match check_rows(&rows[..equations.len() + operands.len()], result) {
-        Ok(table) => Ok(table),
-        Err(_) => Err(Refusal::Ring),
-    }
+    let nodes = nodes_of(equations, &draft.operands[..count]);
+    let nodes = &nodes[..equations.len() + count];
+    check_uses(equations, nodes)?;
+    let rows = table_rows(equations, nodes);
+    check_rows(&rows[..nodes.len()], result as u8).map_err(|_| Refusal::Ring)
 }

@@ -1,31 +1,13 @@
 //! The rows of a text, by their numbers.
 
 ghost use Rattle.std.specs.Prelude.{◌≡◌, ◌+◌, ◌<◌, ◌≤◌, length, take};
-ghost use Rattle.load.specs.Rows.{operand_row, prefix_row, infix_row, node_row, equation_rows, table_rows};
+ghost use Rattle.load.specs.Rows.{operand_row, prefix_row, infix_row, node_row, nodes_of, table_rows};
 
 use crate::heads::find;
 use crate::sizes::ROWS;
 use lexer::{Infix, Prefix};
 use reading::{Arithmetic, Relation, Row};
 use syntax::{Equation, Node, Operand};
-
-/// The row of an operand in a table of `count` rows.
-fn row_of(equations: &[Equation], count: usize, operand: Operand) -> u8
-    requires equations { length equations.now ≤ 64 }
-    requires count { count ≤ 64 }
-    ensures { result ≡ operand_row equations.now count operand }
-{
-    match operand {
-        Operand::Name(name, _) => match find(equations, name) {
-            Some(row) => row as u8,
-            None => 0,
-        },
-        Operand::Row(number) => {
-            let row = equations.len() + number as usize;
-            if row < count { row as u8 } else { 0 }
-        }
-    }
-}
 
 /// The row of an operator before its operand.
 fn prefix_row(op: Prefix, x: u8) -> Row
@@ -61,52 +43,76 @@ fn infix_row(op: Infix, x: u8, y: u8) -> Row
     }
 }
 
-/// The row of a node in a table of `count` rows.
-fn node_row(equations: &[Equation], count: usize, node: Node) -> Row
-    requires equations { length equations.now ≤ 64 }
-    requires count { count ≤ 64 }
-    ensures { result ≡ node_row equations.now count node }
-{
-    match node {
-        Node::Name(name, place) => Row::Same(row_of(equations, count, Operand::Name(name, place))),
-        Node::Channel(channel) => Row::Channel(channel),
-        Node::Literal(value) => Row::Literal(value),
-        Node::Truth(truth) => Row::Truth(truth),
-        Node::Prefix(op, a) => prefix_row(op, row_of(equations, count, a)),
-        Node::Infix(op, a, b) => {
-            let left = row_of(equations, count, a);
-            infix_row(op, left, row_of(equations, count, b))
+/// The equations of a table, and how many rows it has.
+#[derive(Clone, Copy)]
+struct Layout<'a> {
+    equations: &'a [Equation],
+    count: usize,
+    ghost few_equations: { length equations.now ≤ 64 },
+    ghost few_rows: { count ≤ 64 },
+}
+
+impl<'a> Layout<'a> {
+    /// The row of an operand.
+    fn operand_row(self, operand: Operand) -> u8
+        ensures { result ≡ operand_row self.entry.equations.now self.entry.count operand }
+    {
+        match operand {
+            Operand::Name(name, _) => find(self.equations, name).unwrap_or(0) as u8,
+            Operand::Row(number) => {
+                let row = self.equations.len() + number as usize;
+                if row < self.count { row as u8 } else { 0 }
+            }
         }
-        Node::Choice(a, b, c) => {
-            let test = row_of(equations, count, a);
-            let branch = row_of(equations, count, b);
-            Row::If(test, branch, row_of(equations, count, c))
+    }
+
+    /// The row of a node.
+    fn node_row(self, node: Node) -> Row
+        ensures { result ≡ node_row self.entry.equations.now self.entry.count node }
+    {
+        match node {
+            Node::Name(name, place) => Row::Same(self.operand_row(Operand::Name(name, place))),
+            Node::Channel(channel) => Row::Channel(channel),
+            Node::Literal(value) => Row::Literal(value),
+            Node::Truth(truth) => Row::Truth(truth),
+            Node::Prefix(op, a) => prefix_row(op, self.operand_row(a)),
+            Node::Infix(op, a, b) => infix_row(op, self.operand_row(a), self.operand_row(b)),
+            Node::Choice(a, b, c) => Row::If(
+                self.operand_row(a),
+                self.operand_row(b),
+                self.operand_row(c),
+            ),
         }
     }
 }
 
-/// The equations' own rows, in a table of `count` rows.
-fn equation_rows(equations: &[Equation], count: usize) -> [Row; ROWS]
-    requires equations { length equations.now ≤ 64 }
-    requires count { count ≤ 64 }
-    ensures { take (length equations.now) result ≡ equation_rows equations.now count equations.now }
-{
-    let mut rows = [Row::Literal(0); ROWS];
-    for (k, equation) in equations.iter().enumerate() {
-        rows[k] = node_row(equations, count, equation.node);
-    }
-    rows
-}
-
-/// All rows: the equations' own, and then the operands'.
-pub(crate) fn table_rows(equations: &[Equation], operands: &[Node]) -> [Row; ROWS]
+/// The nodes of all rows: the equations' own, and then the operands'; what is past them is no row.
+// Here and below an array with its count beside it, and no `ArrayVec`: that asks for a default node and a default row.
+pub(crate) fn nodes_of(equations: &[Equation], operands: &[Node]) -> [Node; ROWS]
     requires { length equations.now + length operands.now ≤ 64 }
-    ensures { take (length equations.now + length operands.now) result ≡ table_rows equations.now operands.now }
+    ensures { take (length equations.now + length operands.now) result ≡ nodes_of equations.now operands.now }
 {
-    let count = equations.len() + operands.len();
-    let mut rows = equation_rows(equations, count);
-    for (k, node) in operands.iter().enumerate() {
-        rows[equations.len() + k] = node_row(equations, count, *node);
+    let mut nodes = [Node::Literal(0); ROWS];
+    for (k, equation) in equations.iter().enumerate() {
+        nodes[k] = equation.node;
+    }
+    nodes[equations.len()..equations.len() + operands.len()].copy_from_slice(operands);
+    nodes
+}
+
+/// The rows of the nodes; what is past them is no row.
+pub(crate) fn table_rows(equations: &[Equation], nodes: &[Node]) -> [Row; ROWS]
+    requires equations { length equations.now ≤ 64 }
+    requires nodes { length nodes.now ≤ 64 }
+    ensures { take (length nodes.now) result ≡ table_rows equations.now nodes.now }
+{
+    let layout = Layout {
+        equations,
+        count: nodes.len(),
+    };
+    let mut rows = [Row::Literal(0); ROWS];
+    for (k, node) in nodes.iter().enumerate() {
+        rows[k] = layout.node_row(*node);
     }
     rows
 }

@@ -1,7 +1,7 @@
 //! How many rows there are.
 
-ghost use Rattle.std.specs.Prelude.{◌≡◌, ◌≤◌, length};
-ghost use Rattle.load.specs.Sizes.{few, operand_count, Room};
+ghost use Rattle.std.specs.Prelude.{◌≡◌, ◌+◌, ◌≤◌, length, IfOk};
+ghost use Rattle.load.specs.Sizes.{few, operand_count, row_limit};
 
 use crate::refusal::Refusal;
 use syntax::Equation;
@@ -23,7 +23,7 @@ pub(crate) fn check_count(excess: Option<usize>) -> Result<(), Refusal>
 pub(crate) fn count_operands(equations: &[Equation]) -> Result<usize, Refusal>
     requires { length equations.now ≤ 64 }
     ensures value { result ≡ operand_count equations.now }
-    ensures room { Room (length equations.now) result }
+    ensures room { IfOk result (λ rows. length equations.now + rows ≤ row_limit) }
 {
     let room = ROWS - equations.len();
     let mut rows = 0;

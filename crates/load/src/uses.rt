@@ -1,34 +1,29 @@
 //! The names that the equations use.
 
-ghost use Rattle.std.specs.Prelude.{◌≡◌};
-ghost use Rattle.load.specs.Uses.{unknown as unknown-use, earlier as earlier-of, unknown_in, unknown_heads, unknown_rows, used};
+ghost use Rattle.std.specs.Prelude.{◌≡◌, map, fold};
+ghost use Rattle.load.specs.Uses.{unknown, earlier, unknown_in, used};
 
 use crate::heads::find;
 use crate::refusal::Refusal;
-use lexer::Name;
 use syntax::{Equation, Node, Operand};
 
 /// The place where an operand is a name that no equation defines.
 fn unknown(equations: &[Equation], operand: Operand) -> Option<usize>
-    ensures { result ≡ unknown-use equations.now operand }
+    ensures { result ≡ unknown equations.now operand }
 {
     match operand {
-        Operand::Name(name, place) => match find(equations, name) {
-            Some(_) => None,
-            None => Some(place),
-        },
-        Operand::Row(_) => None,
+        Operand::Name(name, place) if find(equations, name).is_none() => Some(place),
+        _ => None,
     }
 }
 
 /// The earlier of two places, of those that are there.
 fn earlier(first: Option<usize>, second: Option<usize>) -> Option<usize>
-    ensures { result ≡ earlier-of first second }
+    ensures { result ≡ earlier first second }
 {
     match (first, second) {
-        (None, place) => place,
-        (Some(place), None) => Some(place),
-        (Some(a), Some(b)) => Some(if a <= b { a } else { b }),
+        (Some(a), Some(b)) => Some(a.min(b)),
+        _ => first.or(second),
     }
 }
 
@@ -48,26 +43,21 @@ fn unknown_in(equations: &[Equation], node: Node) -> Option<usize>
     }
 }
 
-/// The earliest such place in the equations' own nodes.
-fn unknown_in_equations(equations: &[Equation]) -> Option<usize>
-    ensures { result ≡ unknown_heads equations.now equations.now }
+/// The earliest such place in the nodes.
+fn first_unknown(equations: &[Equation], nodes: &[Node]) -> Option<usize>
+    ensures { result ≡ fold earlier None (map (unknown_in equations.now) nodes.now) }
 {
-    let mut first = None;
-    for equation in equations {
-        first = earlier(first, unknown_in(equations, equation.node));
-    }
-    first
+    nodes
+        .iter()
+        .map(|node| unknown_in(equations, *node))
+        .fold(None, |first, second| earlier(first, second))
 }
 
 /// Refuses the earliest use of a name that no equation defines.
-pub(crate) fn check_uses(equations: &[Equation], operands: &[Node]) -> Result<(), Refusal>
-    ensures { result ≡ used equations.now operands.now }
+pub(crate) fn check_uses(equations: &[Equation], nodes: &[Node]) -> Result<(), Refusal>
+    ensures { result ≡ used equations.now nodes.now }
 {
-    let mut first = unknown_in_equations(equations);
-    for node in operands {
-        first = earlier(first, unknown_in(equations, *node));
-    }
-    match first {
+    match first_unknown(equations, nodes) {
         Some(place) => Err(Refusal::Undefined(place)),
         None => Ok(()),
     }

@@ -1,5 +1,6 @@
 -- The numbers of the faults, and which of them a value kind or a source may answer.
-use Rattle.std.specs.Prelude.{ℕ}
+use Rattle.std.specs.Prelude.{ℕ, Result}
+use Rattle.reading.specs.declared.faults.Fault.{Fault}
 use Rattle.reading.specs.declared.faults.FaultNumber.{FaultNumber}
 use Rattle.reading.specs.declared.faults.FaultNumber.TheVariants as Number
 use Rattle.reading.specs.declared.faults.KindFault.{KindFault}
@@ -27,3 +28,7 @@ abbrev pub of_source : SourceFault → FaultNumber
 of_source OfSource.Ended = Number.Ended
 of_source OfSource.Gap = Number.Gap
 of_source OfSource.OutOfRange = Number.OutOfRange
+
+-- What a row reads at a tick: a value of any kind, or a fault.
+abbrev pub Reading : Type 0 → Type 0
+Reading V = Result V Fault

@@ -76,9 +76,5 @@ pub struct Fault {
     pub tick: u32,
 }
 
-/// What a row reads at a tick: a value of any kind, or a fault.
-#[derive(Clone, Copy)]
-pub enum Reading<V> {
-    Value(V),
-    Fault(Fault),
-}
+/// What a row reads at a tick: a value of any kind, or a fault. So `?` passes a fault on, with its birthplace.
+pub type Reading<V> = Result<V, Fault>;

@@ -1,6 +1,6 @@
 -- A run that goes on by one call.
 use Rattle.std.proofs.Common.{◌≡◌, ℕ, ◌+◌, ◌-◌, ◌<◌, ◌∷◌, Ok, Err, Result, sym, ap, ◌∙◌, subst, arith}
-use Rattle.reading.specs.declared.faults.Reading.{Reading}
+use Rattle.reading.specs.Faults.{Reading}
 use Rattle.kind.specs.Kinds.{Meaning}
 use Rattle.theory.specs.Says.{Says}
 use Rattle.theory.specs.Rule.{Sheet, Fits}
@@ -8,10 +8,9 @@ use Rattle.table.specs.Layout.{Layout}
 use Rattle.table.specs.Tables.{layout}
 use Rattle.engine.specs.declared.run.Run.{Run}
 use Rattle.engine.specs.declared.calls.Call.TheVariants.{Settle, Step}
-use Rattle.engine.specs.declared.calls.Answer.{Answer}
 use Rattle.engine.specs.declared.calls.Answer.TheVariants.{Left, Made}
 use Rattle.engine.specs.declared.calls.Refusal.{Refusal}
-use Rattle.engine.specs.Law.{settles_of, steps_of, settled_by, stepped}
+use Rattle.engine.specs.Law.{Reply, settles_of, steps_of, answered}
 use Rattle.engine.specs.Tells.{laid, Tells, Lawful, Stays}
 use Rattle.report.specs.Runs.{Going}
 
@@ -20,16 +19,16 @@ module _ {V : Type 0} (k : Meaning V) (says : Says V) (before after : Run V) (st
   same-laid = ap (λ p. layout p.now.schedule) stays.table
 
   -- A stage is settled.
-  pub settled-more : (a : Answer V) → Lawful k says before after Settle a → (H stages ticks : ℕ) → Going k says before H stages ticks →
-      (a ≡ Left (stages - 1)) × Going k says after H (stages - 1) ticks
+  pub settled-more : (a : Reply V) → Lawful k says before after Settle a → (H stages ticks : ℕ) → Going k says before H stages ticks →
+      (a ≡ Ok (Left (stages - 1))) × Going k says after H (stages - 1) ticks
   settled-more a law H stages ticks g =
       let both = law g.past g.tells in
-      let is : a ≡ Left (stages - 1) = rw g.left at (both.0.1 H g.horizon) in
+      let is : a ≡ Ok (Left (stages - 1)) = rw g.left at (both.0.1 H g.horizon) in
       let fewer : (laid before).stages - (settles_of g.past + 1) ≡ stages - 1 = let e = g.left in omega arith in (
         is,
         record {
-          past = record { call = Settle; answer = Left (stages - 1) } ∷ g.past;
-          tells = subst (λ (x : Answer V). Tells k says after (record { call = Settle; answer = x } ∷ g.past)) is both.1;
+          past = record { call = Settle; reply = Ok (Left (stages - 1)) } ∷ g.past;
+          tells = subst (λ (x : Reply V). Tells k says after (record { call = Settle; reply = x } ∷ g.past)) is both.1;
           horizon = g.horizon;
           left = ap (λ (l : Layout). l.stages - (settles_of g.past + 1)) same-laid ∙ fewer;
           made = g.made;
@@ -37,16 +36,16 @@ module _ {V : Type 0} (k : Meaning V) (says : Says V) (before after : Run V) (st
       )
 
   -- A tick is made.
-  pub stepped-more : (a : Answer V) → Lawful k says before after Step a → (H ticks : ℕ) (σ : Sheet V) → Fits (laid before).rows k says H σ → ticks < H →
-      Going k says before H 0 ticks → (a ≡ Made ticks (σ (laid before).result ticks)) × Going k says after H 0 (ticks + 1)
+  pub stepped-more : (a : Reply V) → Lawful k says before after Step a → (H ticks : ℕ) (σ : Sheet V) → Fits (laid before).rows k says H σ → ticks < H →
+      Going k says before H 0 ticks → (a ≡ Ok (Made ticks (σ (laid before).result ticks))) × Going k says after H 0 (ticks + 1)
   stepped-more a law H ticks σ fits below g =
       let both = law g.past g.tells in
       let low : steps_of g.past < H = let e = g.made in omega arith in
-      let is : a ≡ Made ticks (σ (laid before).result ticks) = rw g.made at ((both.0.1 H g.horizon).2 g.left low σ fits) in (
+      let is : a ≡ Ok (Made ticks (σ (laid before).result ticks)) = rw g.made at ((both.0.1 H g.horizon).2 g.left low σ fits) in (
         is,
         record {
-          past = record { call = Step; answer = Made ticks (σ (laid before).result ticks) } ∷ g.past;
-          tells = subst (λ (x : Answer V). Tells k says after (record { call = Step; answer = x } ∷ g.past)) is both.1;
+          past = record { call = Step; reply = Ok (Made ticks (σ (laid before).result ticks)) } ∷ g.past;
+          tells = subst (λ (x : Reply V). Tells k says after (record { call = Step; reply = x } ∷ g.past)) is both.1;
           horizon = g.horizon;
           left = ap (λ (l : Layout). l.stages - settles_of g.past) same-laid ∙ g.left;
           made = ap (λ (n : ℕ). n + 1) g.made;
@@ -54,20 +53,20 @@ module _ {V : Type 0} (k : Meaning V) (says : Says V) (before after : Run V) (st
       )
 
   -- So settling is never refused.
-  pub never-unsettled : (r : Result ℕ Refusal) (e : Refusal) → r ≡ Err e → Lawful k says before after Settle (settled_by r) → (H stages ticks : ℕ) →
+  pub never-unsettled : (r : Result ℕ Refusal) (e : Refusal) → r ≡ Err e → Lawful k says before after Settle (answered Left r) → (H stages ticks : ℕ) →
       Going k says before H stages ticks → ⊥
   never-unsettled r e is law H stages ticks g =
-      let h = (settled-more (settled_by r) law H stages ticks g).0 in
+      let h = (settled-more (answered Left r) law H stages ticks g).0 in
       cc
 
 -- A step of a run that began as `first` is never refused, and answers the next tick with the sheet's reading.
 module _ {V : Type 0} (k : Meaning V) (says : Says V) (first before after : Run V) (kept : Stays first before) (stays : Stays before after) (r : Result (ℕ × Reading V) Refusal)
-    (law : Lawful k says before after Step (stepped r)) (H ticks : ℕ) (σ : Sheet V) (fits : Fits (laid first).rows k says H σ) (below : ticks < H) (g : Going k says before H 0 ticks) where
+    (law : Lawful k says before after Step (answered (λ m. Made m.0 m.1) r)) (H ticks : ℕ) (σ : Sheet V) (fits : Fits (laid first).rows k says H σ) (below : ticks < H) (g : Going k says before H 0 ticks) where
   same : laid before ≡ laid first
   same = same-laid k says first before kept
 
-  more : (stepped r ≡ Made ticks (σ (laid before).result ticks)) × Going k says after H 0 (ticks + 1)
-  more = stepped-more k says before after stays (stepped r) law H ticks σ (subst (λ (l : Layout). Fits l.rows k says H σ) (sym same) fits) below g
+  more : (answered {V = V} (λ m. Made m.0 m.1) r ≡ Ok (Made ticks (σ (laid before).result ticks))) × Going k says after H 0 (ticks + 1)
+  more = stepped-more k says before after stays (answered (λ m. Made m.0 m.1) r) law H ticks σ (subst (λ (l : Layout). Fits l.rows k says H σ) (sym same) fits) below g
 
   pub never-over : (e : Refusal) → r ≡ Err e → ⊥
   never-over e is =

@@ -1,6 +1,6 @@
 -- One more line.
 use Rattle.std.proofs.Common.{◌≡◌, ℕ, ◌+◌, List, subst, add-one}
-use Rattle.reading.specs.declared.faults.Reading.{Reading}
+use Rattle.reading.specs.Faults.{Reading}
 use Rattle.format.specs.Shown.{line_text}
 use Rattle.text.specs.declared.text.Text.{Text}
 use Rattle.text.specs.Pushed.{Pushed}

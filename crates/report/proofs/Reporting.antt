@@ -10,10 +10,9 @@ use Rattle.table.specs.Layout.{Layout}
 use Rattle.table.specs.Tables.{layout, rows_of}
 use Rattle.engine.specs.declared.run.Run.{Run}
 use Rattle.engine.specs.declared.calls.Call.TheVariants.{Open}
-use Rattle.engine.specs.declared.calls.Answer.{Answer}
 use Rattle.engine.specs.declared.calls.Answer.TheVariants.{Stages}
 use Rattle.engine.specs.declared.calls.Refusal.{Refusal}
-use Rattle.engine.specs.Law.{Right, opened}
+use Rattle.engine.specs.Law.{Reply, Right, answered}
 use Rattle.engine.specs.Tells.{laid, Tells, Lawful, Stays}
 use Rattle.format.specs.Shown.{heading_text}
 use Rattle.text.specs.declared.text.Text.{Text}
@@ -28,9 +27,9 @@ pub for-horizon : {V : Type 0} {t : Schedule} {k : Meaning V} {says : Says V} {H
 for-horizon {V} {t} {k} {says} {H} {room} {text} {was} {end} {r} H' e h = subst (λ (n : ℕ). Reported t k says n room text was end r) e h
 
 module _ {V : Type 0} (t : Schedule) (k : Meaning V) (says : Says V) (text : V → List ℕ) (H room : ℕ) (fresh began : Run V) (r : Result ℕ Refusal)
-    (laid-is : laid fresh ≡ layout t) (room-is : length fresh.cells.now ≡ room) (tells : Tells k says fresh []) (law : Lawful k says fresh began (Open H) (opened r)) where
-  right : Right (layout t) k says room [] (Open H) (opened {V = V} r)
-  right = subst (λ (n : ℕ). Right (layout t) k says n [] (Open H) (opened {V = V} r)) room-is (subst (λ (l : Layout). Right l k says (length fresh.cells.now) [] (Open H) (opened {V = V} r)) laid-is (law [] tells).0)
+    (laid-is : laid fresh ≡ layout t) (room-is : length fresh.cells.now ≡ room) (tells : Tells k says fresh []) (law : Lawful k says fresh began (Open H) (answered Stages r)) where
+  right : Right (layout t) k says room [] (Open H) (answered {V = V} Stages r)
+  right = subst (λ (n : ℕ). Right (layout t) k says n [] (Open H) (answered {V = V} Stages r)) room-is (subst (λ (l : Layout). Right l k says (length fresh.cells.now) [] (Open H) (answered {V = V} Stages r)) laid-is (law [] tells).0)
 
   -- A refused open appends nothing.
   pub refused-open : (e : Refusal) (was : Text) (end : Result Unit Refusal) → r ≡ Err e → end ≡ Err e → Reported t k says H room text was was end
@@ -63,10 +62,10 @@ module _ {V : Type 0} (t : Schedule) (k : Meaning V) (says : Says V) (text : V �
           let a = right.3 some near enough in
           let stages : n ≡ t.stages = cc in
           let all : (layout t).stages - 0 ≡ n = omega arith in
-          let e : opened {V = V} r ≡ Stages n = ap opened is in
+          let e : answered {V = V} Stages r ≡ Ok (Stages n) = ap (answered Stages) is in
           record {
-            past = record { call = Open H; answer = Stages n } ∷ [];
-            tells = subst (λ (x : Answer V). Tells k says began (record { call = Open H; answer = x } ∷ [])) e (law [] tells).1;
+            past = record { call = Open H; reply = Ok (Stages n) } ∷ [];
+            tells = subst (λ (x : Reply V). Tells k says began (record { call = Open H; reply = x } ∷ [])) e (law [] tells).1;
             horizon = refl;
             left = ap (λ (l : Layout). l.stages - 0) open-laid ∙ all;
             made = refl;

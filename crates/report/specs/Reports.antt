@@ -1,6 +1,6 @@
 -- The list of a run.
 use Rattle.std.specs.Prelude.{◌≡◌, ℕ, zero, suc, ◌<◌, ◌≤◌, List, [], ◌++◌, Ok, Err, Result}
-use Rattle.reading.specs.declared.faults.Reading.{Reading}
+use Rattle.reading.specs.Faults.{Reading}
 use Rattle.kind.specs.Kinds.{Meaning}
 use Rattle.theory.specs.Says.{Says}
 use Rattle.theory.specs.Rule.{Sheet, Fits}

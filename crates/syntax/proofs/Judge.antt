@@ -7,12 +7,11 @@ use Rattle.lexer.specs.declared.token.Token.{Token}
 use Rattle.lexer.specs.declared.token.Token.TheVariants as word
 use Rattle.grammar.specs.Grammar.{words, Equation}
 use Rattle.grammar.specs.Machine.{Spot, due, and_then, takes, go_on, is, State, header, name, equals, inside, ended, nameable, begin_equation, end_equation, enter, after_header, step, run, start}
-use Rattle.lexer.specs.declared.lexer.Next.TheVariants.{Word, Finish, Bad}
 use Rattle.syntax.specs.declared.refusal.Refusal.{Refusal}
-use Rattle.lexer.specs.Lexer.{skip, scan}
+use Rattle.lexer.specs.Lexer.{skip, scan, a_word, not_a_word}
 use Rattle.syntax.specs.declared.refusal.Refusal.TheVariants.{NoWord, Unexpected}
-use Rattle.syntax.specs.Reading.{Marked, Kept, Turned, none, wrong as wrong_word, AnotherRead, opened, opened_by, Expression, Whole, Missing, halted, other_word, Lies, Halt, bad, over, Stuck, no_word as stuck-word, no_such, too_deep as stuck-deep, Broken}
-use Rattle.syntax.specs.Judgement.{Way, Due, Ended, HeaderRead, EquationRead, Wrong, no_word, too_short, no_text, too_deep, Refused, Accepted}
+use Rattle.syntax.specs.Reading.{Marked, Turned, none, wrong as wrong_word, AnotherRead, opened, opened_by, Expression, Whole, Missing, halted, other_word, Lies, Halt, bad, over, Stuck, no_word as stuck-word, no_such, too_deep as stuck-deep, Broken}
+use Rattle.syntax.specs.Judgement.{Way, HeaderRead, EquationRead, Wrong, no_word, too_short, no_text, too_deep, Refused, Accepted}
 use Rattle.grammar.proofs.Parts.{some_is}
 use Rattle.grammar.proofs.Complete.{along, not-viable, run-append}
 use Rattle.grammar.proofs.Exact.{lives-viable, text-ends, decides}
@@ -30,7 +29,7 @@ module _ (bs : List ℕ) where
   judged ws q c s l e live k = record { words = ws; place = q; depth = c; lies = l; viable = lives-viable ws s e; wrong = wrong ws q c s e live k }
 
   inside-open : (es gs : List Equation) (a : Atom) (x : Spot) → inside es a x ≡ ended gs → ⊥
-  inside-open es gs a x e = let z : ◌≡◌ {A = ℕ} 0 1 = cc in omega arith
+  inside-open es gs a x e = cc
 
   after : (ws : List Token) (x : State) → run start ws ≡ Some x → (vs : List Token) → run start (ws ++ vs) ≡ run x vs
   after ws x e vs = run-append ws vs start ∙ ap (λ o. and_then o (λ y. run y vs)) e
@@ -50,7 +49,7 @@ module _ (bs : List ℕ) where
       (λ gs i. inside-open es gs a s.0 i)
       (moved ws b.read _ e (b.stuck es a []))
 
-  pub accepted : (ws : List Token) (q c : ℕ) (es : List Equation) → Lies bs (skip bs 0) 0 ws q c → run start ws ≡ Some (ended es) → scan bs q ≡ Finish → Accepted bs
+  pub accepted : (ws : List Token) (q c : ℕ) (es : List Equation) → Lies bs (skip bs 0) 0 ws q c → run start ws ≡ Some (ended es) → scan bs q ≡ Ok None → Accepted bs
   accepted ws q c es l e f = record { words = ws; place = q; depth = c; lies = l; ends = f; text = (decides.ended_text ws es e).0 }
 
   pub way-start : Way bs start (skip bs 0) 0
@@ -59,7 +58,7 @@ module _ (bs : List ℕ) where
   stepped : (by : List Token) (y z : State) (w : Token) → run start by ≡ Some y → step y w ≡ Some z → run start (by ++ w ∷ []) ≡ Some z
   stepped by y z w g s = after by y g (w ∷ []) ∙ ap (λ o. and_then o (λ x. run x [])) s
 
-  pub way_step : {y z : State} {q c e : ℕ} {w : Token} → Way bs y q c → scan bs q ≡ Word w e → step y w ≡ Some z → opened w c ≤ 16 → Way bs z (skip bs e) (opened w c)
+  pub way_step : {y z : State} {q c e : ℕ} {w : Token} → Way bs y q c → scan bs q ≡ Ok (Some (a_word w e)) → step y w ≡ Some z → opened w c ≤ 16 → Way bs z (skip bs e) (opened w c)
   way_step {y} {z} {q} {c} {e} {w} v h s o = record {
     by = v.by ++ w ∷ [];
     lies = lies-append bs v.by (w ∷ []) (skip bs 0) 0 q c (skip bs e) (opened w c) v.lies (e, h, o, (refl, refl));
@@ -72,7 +71,7 @@ module _ (bs : List ℕ) where
   pub way-halt : {y : State} {q c : ℕ} {r : Refusal} → Way bs y q c → OpenState y → Halt bs q r → Refused bs r
   way-halt {y} {q} {c} v o h = judged v.by q c y v.lies v.goes o (stuck-word h)
 
-  pub way-refused : {y : State} {q c e : ℕ} {w : Token} → Way bs y q c → scan bs q ≡ Word w e → step y w ≡ None → Refused bs (Unexpected q)
+  pub way-refused : {y : State} {q c e : ℕ} {w : Token} → Way bs y q c → scan bs q ≡ Ok (Some (a_word w e)) → step y w ≡ None → Refused bs (Unexpected q)
   way-refused {y} {q} {c} {e} {w} v h s = record {
     words = v.by;
     place = q;
@@ -99,7 +98,7 @@ module _ (bs : List ℕ) where
     }
 
     -- what the next word does there
-    pub tree-step : {p d q l e : ℕ} (x : Expression bs 1 p d q l) → Whole bs 1 q l → (w : Token) → scan bs q ≡ Word w e → step (inside es a (tip [] 1 x.tree)) w ≡ end_equation es a (Some x.tree) w
+    pub tree-step : {p d q l e : ℕ} (x : Expression bs 1 p d q l) → Whole bs 1 q l → (w : Token) → scan bs q ≡ Ok (Some (a_word w e)) → step (inside es a (tip [] 1 x.tree)) w ≡ end_equation es a (Some x.tree) w
     tree-step {e = e} x o w h =
         one-step (step (inside es a (tip [] 1 x.tree)) w)
         ∙ sym (after-tip (w ∷ []))
@@ -117,13 +116,13 @@ module _ (bs : List ℕ) where
   pub inside-is-open : (es : List Equation) (a : Atom) (x : Spot) → OpenState (inside es a x)
   inside-is-open es a x gs e = inside-open es gs a x e
 
-  pub way_end : {q c : ℕ} (es : List Equation) → Way bs (ended es) q c → scan bs q ≡ Finish → Accepted bs
+  pub way_end : {q c : ℕ} (es : List Equation) → Way bs (ended es) q c → scan bs q ≡ Ok None → Accepted bs
   way_end {q} {c} es v f = accepted v.by q c es v.lies v.goes f
 
-  pub way-end-bad : {y : State} {q c : ℕ} → Way bs y q c → scan bs q ≡ Bad → Refused bs (NoWord q)
-  way-end-bad {y} {q} {c} v h = record { words = v.by; place = q; depth = c; lies = v.lies; viable = lives-viable v.by y v.goes; wrong = no_word h }
+  pub bad_refused : {y : State} {q c : ℕ} {r : Refusal} → Way bs y q c → (r ≡ NoWord q) × (scan bs q ≡ Err not_a_word) → Refused bs r
+  bad_refused {y} {q} {c} v h = subst (Refused bs) (sym h.0) (record { words = v.by; place = q; depth = c; lies = v.lies; viable = lives-viable v.by y v.goes; wrong = no_word h.1 })
 
-  pub mark-way : {y z : State} {q q' c : ℕ} (m : Mark) → Way bs y q c → (e : ℕ) × (scan bs q ≡ Word (word.Mark m) e) × (q' ≡ skip bs e) → step y (word.Mark m) ≡ Some z → opened_by m c ≡ c → c ≤ 16 → Way bs z q' c
+  pub mark-way : {y z : State} {q q' c : ℕ} (m : Mark) → Way bs y q c → (e : ℕ) × (scan bs q ≡ Ok (Some (a_word (word.Mark m) e))) × (q' ≡ skip bs e) → step y (word.Mark m) ≡ Some z → opened_by m c ≡ c → c ≤ 16 → Way bs z q' c
   mark-way {y} {z} {q} {q'} {c} m v k s o l =
       let w : Way bs z (skip bs k.0) (opened_by m c) = way_step v k.1 s (omega (arith, o)) in
       subst (λ x. Way bs z x c) (sym k.2) (subst (λ d. Way bs z (skip bs k.0) d) o w)
@@ -132,13 +131,13 @@ module _ (bs : List ℕ) where
   way-first p e = subst (λ x. Way bs start x 0) (sym e) way-start
 
   header-open : (ks : List Mark) → OpenState (header ks)
-  header-open ks gs e = let z : ◌≡◌ {A = ℕ} 0 1 = cc in omega arith
+  header-open ks gs e = cc
 
   name-open : (es : List Equation) → OpenState (name es)
-  name-open es gs e = let z : ◌≡◌ {A = ℕ} 0 1 = cc in omega arith
+  name-open es gs e = cc
 
   equals-open : (es : List Equation) (a : Atom) → OpenState (equals es a)
-  equals-open es a gs e = let z : ◌≡◌ {A = ℕ} 0 1 = cc in omega arith
+  equals-open es a gs e = cc
 
   -- another word stands for a mark that is due
   pub header-missing : {q : ℕ} {r : Refusal} (k : Mark) (ks : List Mark) → Way bs (header (k ∷ ks)) q 0 → Missing bs q k r → Refused bs r
@@ -148,7 +147,7 @@ module _ (bs : List ℕ) where
   equals-missing es a v h = way-missing Equals v (equals-open es a) (λ w i. ap (λ b. cond b (Some (inside es a (due [] 1))) None) i) h
 
   -- the left side of an equation
-  pub head-way : {q q' : ℕ} (es : List Equation) (a : Atom) → Way bs (name es) q 0 → (e : ℕ) × (scan bs q ≡ Word (word.Atom a) e) × (q' ≡ skip bs e) × (nameable a ≡ true) → Way bs (equals es a) q' 0
+  pub head-way : {q q' : ℕ} (es : List Equation) (a : Atom) → Way bs (name es) q 0 → (e : ℕ) × (scan bs q ≡ Ok (Some (a_word (word.Atom a) e))) × (q' ≡ skip bs e) × (nameable a ≡ true) → Way bs (equals es a) q' 0
   head-way {q} {q'} es a v k =
       let w : Way bs (equals es a) (skip bs k.0) 0 = way_step v k.1 (ap (λ b. cond b (Some (equals es a)) None) k.3) (omega arith) in
       subst (λ x. Way bs (equals es a) x 0) (sym k.2) w
@@ -172,16 +171,12 @@ module _ (bs : List ℕ) where
           ap (λ b. cond b (Some (name done)) (cond (is End w) (Some (ended done)) None)) i ∙ ap (λ b. cond b (Some (ended done)) None) j
 
   -- the end of the text
-  pub end_refused : {q e : ℕ} {w : Token} (es : List Equation) → Way bs (ended es) q 0 → scan bs q ≡ Word w e → Refused bs (Unexpected q)
+  pub end_refused : {q e : ℕ} {w : Token} (es : List Equation) → Way bs (ended es) q 0 → scan bs q ≡ Ok (Some (a_word w e)) → Refused bs (Unexpected q)
   end_refused es v h = way-refused v h refl
 
   pub header-end : {A : Type 0} (p q : ℕ) → Way bs (header (Where ∷ [])) p 0 → (r : Result A Refusal) → Marked bs p q Where r → HeaderRead bs q r
   header-end p q v (Ok u) k = record { read = []; way = mark-way Where v k refl refl (omega arith) }
   header-end p q v (Err r) k = header-missing Where [] v k
-
-pub kept-all : {A : Type 0} (d c : ℕ) (r : Result A Refusal) → c ≡ d → Kept d c r
-kept-all d c (Ok u) e = e
-kept-all d c (Err r) e = tt
 
 pub moved-another : (bs bs' : List ℕ) (p q : ℕ) (r : Result Bool Refusal) → bs' ≡ bs → AnotherRead bs' p q r → AnotherRead bs p q r
 moved-another bs bs' p q r e h = subst (λ b. AnotherRead b p q r) e h
@@ -191,21 +186,3 @@ moved-mark bs bs' p q m r e h = subst (λ b. Marked b p q m r) e h
 
 pub moved-refused : {bs bs' : List ℕ} {r : Refusal} → bs' ≡ bs → Refused bs' r → Refused bs r
 moved-refused {r = r} e h = subst (λ b. Refused b r) e h
-
-pub moved-due : {bs bs' : List ℕ} {q : ℕ} → bs' ≡ bs → Due bs' q → Due bs q
-moved-due {q = q} e h = subst (λ b. Due b q) e h
-
-pub moved-ended : {bs bs' : List ℕ} {q : ℕ} → bs' ≡ bs → Ended bs' q → Ended bs q
-moved-ended {q = q} e h = subst (λ b. Ended b q) e h
-
--- what the answer on another equation says
-pub again-due : (bs bs' : List ℕ) (q : ℕ) (b : Bool) → bs' ≡ bs → b ≡ true → EquationRead bs' q (Ok b) → Due bs q
-again-due bs bs' q true e t h = moved-due e h
-again-due bs bs' q false e t h = absurd (let z : ◌≡◌ {A = ℕ} 0 1 = cc in omega arith)
-
-pub last-ended : (bs bs' : List ℕ) (q : ℕ) (b : Bool) → bs' ≡ bs → b ≡ false → EquationRead bs' q (Ok b) → Ended bs q
-last-ended bs bs' q false e t h = moved-ended e h
-last-ended bs bs' q true e t h = absurd (let z : ◌≡◌ {A = ℕ} 0 1 = cc in omega arith)
-
-pub moved-accepted : {bs bs' : List ℕ} → bs' ≡ bs → Accepted bs' → Accepted bs
-moved-accepted e h = subst (λ b. Accepted b) e h

@@ -1,14 +1,12 @@
 -- At most one answer fits the bytes: words that lie from one place on are each other's beginnings. Assumes nothing.
-use Rattle.std.proofs.Common.{◌≡◌, ℕ, ◌+◌, ◌≤◌, List, [], ◌∷◌, ◌++◌, length, sym, refl, ap, ◌∙◌, subst, append_assoc, append-nil, arith}
-use Rattle.lexer.specs.declared.token.Mark.TheVariants.{Open}
+use Rattle.std.proofs.Common.{◌≡◌, ℕ, ◌+◌, ◌≤◌, List, [], ◌∷◌, ◌++◌, length, sym, refl, ap, ◌∙◌, subst, append_assoc, append-nil, arith, Ok, Some, None}
 use Rattle.lexer.specs.declared.token.Token.{Token}
-use Rattle.lexer.specs.declared.token.Token.TheVariants as word
-use Rattle.lexer.specs.declared.lexer.Next.TheVariants.{Word, Finish}
 use Rattle.syntax.specs.declared.refusal.Refusal.{Refusal}
 use Rattle.grammar.specs.Grammar.{Text, Viable}
-use Rattle.lexer.specs.Lexer.{skip, scan}
+use Rattle.lexer.specs.Lexer.{skip, scan, a_word}
 use Rattle.syntax.specs.Reading.{opened, limit, Lies}
 use Rattle.syntax.specs.Judgement.{Wrong, no_word, too_short, no_text, too_deep, Refused, Accepted, longest_text, Rejected, too_long, at_word, Single}
+use Rattle.syntax.proofs.Steps.{same_word}
 
 module _ (bs : List ℕ) where
   -- vs goes on after ws, which end at q, with a word there
@@ -17,7 +15,7 @@ module _ (bs : List ℕ) where
     pub rest : List Token
     pub end : ℕ
     pub is : vs ≡ ws ++ next ∷ rest
-    pub stands : scan bs q ≡ Word next end
+    pub stands : scan bs q ≡ Ok (Some (a_word next end))
     pub fits : opened next c ≤ limit
 
   data Compared (ws : List Token) (q c : ℕ) (vs : List Token) (p d : ℕ) : Type 0 where
@@ -39,7 +37,7 @@ module _ (bs : List ℕ) where
     rest = vs;
     end = l.0;
     is = refl;
-    stands = subst (λ x. scan bs x ≡ Word v l.0) f l.1;
+    stands = subst (λ x. scan bs x ≡ Ok (Some (a_word v l.0))) f l.1;
     fits = subst (λ x. opened v x ≤ limit) g l.2;
   }
 
@@ -48,9 +46,9 @@ module _ (bs : List ℕ) where
   compare [] (v ∷ vs) s d q c p e l m = shorter (onto v vs s d q c p e l.0 l.1 m)
   compare (w ∷ ws) [] s d q c p e l m = longer (onto w ws s d p e q c m.0 m.1 l)
   compare (w ∷ ws) (v ∷ vs) s d q c p e l m =
-      let t : Word w l.0 ≡ Word v m.0 = sym l.1 ∙ m.1 in
-      let i : w ≡ v = cc in
-      let j : l.0 ≡ m.0 = cc in
+      let t = same_word l.1 m.1 in
+      let i = t.0 in
+      let j = t.1 in
       let n : Lies bs (skip bs l.0) (opened w d) vs p e = subst (λ x. Lies bs (skip bs x) (opened w d) vs p e) (sym j) (subst (λ x. Lies bs (skip bs m.0) (opened x d) vs p e) (sym i) m.3) in
       more w v i (compare ws vs (skip bs l.0) (opened w d) q c p e l.3 n)
 
@@ -60,34 +58,32 @@ module _ (bs : List ℕ) where
 
   -- no viable words go on past a place where something is wrong
   stops : (ws vs : List Token) (q c : ℕ) {r : Refusal} → Wrong bs ws q c r → Viable vs → On ws q c vs → ⊥
-  stops ws vs q c (no_word h) v o = let f = o.stands in let z : ◌≡◌ {A = ℕ} 0 1 = cc in omega arith
-  stops ws vs q c (too_short h n) v o = let f = o.stands in let z : ◌≡◌ {A = ℕ} 0 1 = cc in omega arith
+  stops ws vs q c (no_word h) v o = let f = o.stands in cc
+  stops ws vs q c (too_short h n) v o = let f = o.stands in cc
   stops ws vs q c (no_text {w} {e} h n) v o =
-      let t : Word w e ≡ Word o.next o.end = sym h ∙ o.stands in
-      let i : o.next ≡ w = cc in
+      let i = (same_word o.stands h).0 in
       n (shorter-viable ws vs o.rest w (o.is ∙ ap (λ x. ws ++ x ∷ o.rest) i) v)
   stops ws vs q c (too_deep {e} h n d) v o =
-      let t : Word (word.Mark Open) e ≡ Word o.next o.end = sym h ∙ o.stands in
-      let i : o.next ≡ word.Mark Open = cc in
+      let i = (same_word o.stands h).0 in
       let f : c + 1 ≤ 16 = subst (λ x. opened x c ≤ limit) i o.fits in
       omega arith
 
   once : (ws : List Token) (q c : ℕ) {r s : Refusal} → Wrong bs ws q c r → Wrong bs ws q c s → r ≡ s
   once ws q c (no_word h) (no_word k) = refl
-  once ws q c (no_word h) (too_short k n) = absurd (let z : ◌≡◌ {A = ℕ} 0 1 = cc in omega arith)
-  once ws q c (no_word h) (no_text k n) = absurd (let z : ◌≡◌ {A = ℕ} 0 1 = cc in omega arith)
-  once ws q c (no_word h) (too_deep k n d) = absurd (let z : ◌≡◌ {A = ℕ} 0 1 = cc in omega arith)
-  once ws q c (too_short h m) (no_word k) = absurd (let z : ◌≡◌ {A = ℕ} 0 1 = cc in omega arith)
+  once ws q c (no_word h) (too_short k n) = cc
+  once ws q c (no_word h) (no_text k n) = cc
+  once ws q c (no_word h) (too_deep k n d) = cc
+  once ws q c (too_short h m) (no_word k) = cc
   once ws q c (too_short h m) (too_short k n) = refl
   once ws q c (too_short h m) (no_text k n) = refl
-  once ws q c (too_short h m) (too_deep k n d) = absurd (let z : ◌≡◌ {A = ℕ} 0 1 = cc in omega arith)
-  once ws q c (no_text h m) (no_word k) = absurd (let z : ◌≡◌ {A = ℕ} 0 1 = cc in omega arith)
+  once ws q c (too_short h m) (too_deep k n d) = cc
+  once ws q c (no_text h m) (no_word k) = cc
   once ws q c (no_text h m) (too_short k n) = refl
   once ws q c (no_text h m) (no_text k n) = refl
-  once ws q c (no_text {w} h m) (too_deep k n d) = let i : word.Mark Open ≡ w = cc in absurd (m (subst (λ x. Viable (ws ++ x ∷ [])) i n))
-  once ws q c (too_deep h m d) (no_word k) = absurd (let z : ◌≡◌ {A = ℕ} 0 1 = cc in omega arith)
-  once ws q c (too_deep h m d) (too_short k n) = absurd (let z : ◌≡◌ {A = ℕ} 0 1 = cc in omega arith)
-  once ws q c (too_deep h m d) (no_text {w} k n) = let i : word.Mark Open ≡ w = cc in absurd (n (subst (λ x. Viable (ws ++ x ∷ [])) i m))
+  once ws q c (no_text {w} h m) (too_deep k n d) = let i = (same_word k h).0 in absurd (m (subst (λ x. Viable (ws ++ x ∷ [])) i n))
+  once ws q c (too_deep h m d) (no_word k) = cc
+  once ws q c (too_deep h m d) (too_short k n) = cc
+  once ws q c (too_deep h m d) (no_text {w} k n) = let i = (same_word h k).0 in absurd (n (subst (λ x. Viable (ws ++ x ∷ [])) i m))
   once ws q c (too_deep h m d) (too_deep k n e) = refl
 
   moved-wrong : (ws vs : List Token) (q p c d : ℕ) (r : Refusal) → ws ≡ vs → q ≡ p → c ≡ d → Wrong bs vs p d r → Wrong bs ws q c r
@@ -101,17 +97,17 @@ module _ (bs : List ℕ) where
         | longer o ↦ absurd (stops b.words a.words b.place b.depth b.wrong a.viable o)
       ]
 
-  right_there : (ws : List Token) (q c : ℕ) {r : Refusal} → scan bs q ≡ Finish → Text ws → Wrong bs ws q c r → ⊥
-  right_there ws q c f t (no_word h) = let z : ◌≡◌ {A = ℕ} 0 1 = cc in omega arith
+  right_there : (ws : List Token) (q c : ℕ) {r : Refusal} → scan bs q ≡ Ok None → Text ws → Wrong bs ws q c r → ⊥
+  right_there ws q c f t (no_word h) = cc
   right_there ws q c f t (too_short h n) = n t
-  right_there ws q c f t (no_text h n) = let z : ◌≡◌ {A = ℕ} 0 1 = cc in omega arith
-  right_there ws q c f t (too_deep h n d) = let z : ◌≡◌ {A = ℕ} 0 1 = cc in omega arith
+  right_there ws q c f t (no_text h n) = cc
+  right_there ws q c f t (too_deep h n d) = cc
 
   apart : (r : Refusal) → Accepted bs → Refused bs r → ⊥
   apart r a b =
       elim (compare a.words b.words (skip bs 0) 0 a.place a.depth b.place b.depth a.lies b.lies) [
         | same e f g ↦ right_there a.words a.place a.depth a.ends a.text (moved-wrong a.words b.words a.place b.place a.depth b.depth r e f g b.wrong)
-        | shorter o ↦ (let f = o.stands in let g = a.ends in let z : ◌≡◌ {A = ℕ} 0 1 = cc in omega arith)
+        | shorter o ↦ (let f = o.stands in let g = a.ends in cc)
         | longer o ↦ stops b.words a.words b.place b.depth b.wrong ([], subst (λ x. Text x) (sym (append-nil a.words)) a.text) o
       ]
 

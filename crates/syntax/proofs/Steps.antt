@@ -12,15 +12,31 @@ use Rattle.lexer.specs.declared.token.Token.{Token}
 use Rattle.lexer.specs.declared.token.Token.TheVariants as word
 use Rattle.grammar.specs.Grammar.{levels, prefix_level, choice_level, Tree, leaf, bracket, prefix, infix', choice, level_of, Fits, symbol, words, Equation}
 use Rattle.grammar.specs.Machine.{Frame, group, operand, right, test, branch, other, Spot, due, read, and_then, takes, go_on, is, close, minus, begin_prefix, begin, advance, State, inside, whole, whole_at, end_equation, enter, run, Stops}
-use Rattle.lexer.specs.declared.lexer.Next.TheVariants.{Word, Finish, Bad}
-use Rattle.syntax.specs.declared.reader.Part.{Part}
+use Rattle.std.specs.Prelude.{ok_or}
+use Rattle.lexer.specs.declared.lexer.NotAWord.{NotAWord}
+use Rattle.lexer.specs.declared.lexer.Word.{Word}
 use Rattle.syntax.specs.declared.refusal.Refusal.{Refusal}
 use Rattle.syntax.specs.declared.refusal.Refusal.TheVariants.{NoWord, Unexpected, TooDeep}
-use Rattle.lexer.specs.Lexer.{skip, scan}
+use Rattle.lexer.specs.Lexer.{skip, scan, a_word, not_a_word}
 use Rattle.grammar.specs.Machine.{as_prefix}
-use Rattle.syntax.specs.Reading.{opened_by, opened, Lies, Halt, bad, Missing, halted, other_word, Expression, Whole, Stuck, no_word, no_such, too_deep, Broken, Begins, OperandRead, Moved, Kept}
-use Rattle.grammar.proofs.Parts.{some_is, none-some, refit, taken}
+use Rattle.syntax.specs.Reading.{opened_by, opened, Lies, Halt, bad, over, Missing, halted, other_word, Expression, Whole, Stuck, no_word, no_such, too_deep, Broken, Begins}
+use Rattle.grammar.proofs.Parts.{refit, taken}
 use Rattle.grammar.proofs.Complete.{mark-stops, along, run-append, begins, infix-left}
+
+-- Two words found at one place are the same, and end at the same place.
+pub same_word : {w v : Token} {e g : ℕ} {found : Result (Option Word) NotAWord} → found ≡ Ok (Some (a_word w e)) → found ≡ Ok (Some (a_word v g)) → (w ≡ v) × (e ≡ g)
+same_word {w} {v} {e} {g} h k = let s : a_word w e ≡ a_word v g = cc in (ap (λ (x : Word). x.token) s, ap (λ (x : Word). x.end) s)
+
+pub halted_bad : {bs : List ℕ} {p : ℕ} {r : Refusal} → (r ≡ NoWord p) × (scan bs p ≡ Err not_a_word) → Halt bs p r
+halted_bad {bs} {p} h = subst (Halt bs p) (sym h.0) (bad h.1)
+
+-- Where an option is refused, there is nothing.
+pub none_there : {A : Type 0} (o : Option A) {r s : Refusal} → Err r ≡ ok_or o s → (o ≡ None) × (r ≡ s)
+none_there None e = (refl, cc)
+none_there (Some a) e = (cc, cc)
+
+pub halted_over : {bs : List ℕ} {p : ℕ} {r : Refusal} (found : Option Word) → scan bs p ≡ Ok found → Err r ≡ ok_or found (Unexpected p) → Halt bs p r
+halted_over {bs} {p} found h e = let k = none_there found e in subst (Halt bs p) (sym k.1) (over (h ∙ ap (λ o. Ok o) k.0))
 
 -- where the machine stands inside the tree's last operand, once the tree's words are read
 abbrev pub tip : List Frame → ℕ → Tree → Spot
@@ -101,7 +117,7 @@ module _ (bs : List ℕ) where
   pub no-first : {n p d : ℕ} {r : Refusal} → Halt bs p r → Broken bs (at n) p d r
   no-first {n} {p} {d} h = record { read = []; place = p; depth = d; lies = (refl, refl); alive = λ es a fs. (due fs n, refl); stuck = λ es a fs. no_word h }
 
-  pub refused-first : {n p d e : ℕ} {w : Token} → scan bs p ≡ Word w e → ((fs : List Frame) → begin fs n w ≡ None) → Broken bs (at n) p d (Unexpected p)
+  pub refused-first : {n p d e : ℕ} {w : Token} → scan bs p ≡ Ok (Some (a_word w e)) → ((fs : List Frame) → begin fs n w ≡ None) → Broken bs (at n) p d (Unexpected p)
   refused-first {n} {p} {d} {e} {w} h k = record {
     read = [];
     place = p;
@@ -111,11 +127,11 @@ module _ (bs : List ℕ) where
     stuck = λ es a fs. no_such h (ap (λ o. and_then (enter es a o None) (λ y. run y [])) (k fs));
   }
 
-  pub atom-read : {n p d e : ℕ} {x : Atom} → scan bs p ≡ Word (word.Atom x) e → n ≤ 11 → d ≤ 16 → Expression bs n p d (skip bs e) 11
+  pub atom-read : {n p d e : ℕ} {x : Atom} → scan bs p ≡ Ok (Some (a_word (word.Atom x) e)) → n ≤ 11 → d ≤ 16 → Expression bs n p d (skip bs e) 11
   atom-read {n} {p} {d} {e} {x} h k l = record { tree = leaf x; fits = k; lies = (e, h, l, (refl, refl)); level = refl; stops = λ i. tt }
 
   -- brackets
-  pub deep-first : {n p d e : ℕ} → scan bs p ≡ Word (word.Mark Open) e → d ≡ 16 → Broken bs (at n) p d (TooDeep p)
+  pub deep-first : {n p d e : ℕ} → scan bs p ≡ Ok (Some (a_word (word.Mark Open) e)) → d ≡ 16 → Broken bs (at n) p d (TooDeep p)
   deep-first {n} {p} {d} {e} h k = record {
     read = [];
     place = p;
@@ -125,20 +141,20 @@ module _ (bs : List ℕ) where
     stuck = λ es a fs. too_deep {s = inside es a (due (group n ∷ fs) 1)} h refl k;
   }
 
-  pub open-leads : {n p d e : ℕ} → scan bs p ≡ Word (word.Mark Open) e → d < 16 → Leads (at n) (at_in (group n) 1) p d (skip bs e) (d + 1)
+  pub open-leads : {n p d e : ℕ} → scan bs p ≡ Ok (Some (a_word (word.Mark Open) e)) → d < 16 → Leads (at n) (at_in (group n) 1) p d (skip bs e) (d + 1)
   open-leads {n} {p} {d} {e} h k = record { by = word.Mark Open ∷ []; lies = (e, h, omega arith, (refl, refl)); goes = λ es a fs. refl }
 
-  pub if-leads : {n p d e : ℕ} → scan bs p ≡ Word (word.Mark If) e → n ≤ 3 → d ≤ 16 → Leads (at n) (at_in (test n) 3) p d (skip bs e) d
+  pub if-leads : {n p d e : ℕ} → scan bs p ≡ Ok (Some (a_word (word.Mark If) e)) → n ≤ 3 → d ≤ 16 → Leads (at n) (at_in (test n) 3) p d (skip bs e) d
   if-leads {n} {p} {d} {e} h k l = record { by = word.Mark If ∷ []; lies = (e, h, l, (refl, refl)); goes = λ es a fs. one es a (due fs n) (due (test n ∷ fs) 3) (word.Mark If) [] (cond-true _ _ _ (le-leb n 3 k)) }
 
   -- an expression and then the mark that its frame waits for
-  tree-by : {n p d q l e : ℕ} {k : Mark} (x : Expression bs n p d q l) → scan bs q ≡ Word (word.Mark k) e → opened_by k d ≤ 16 → Lies bs p d (words x.tree ++ word.Mark k ∷ []) (skip bs e) (opened_by k d)
+  tree-by : {n p d q l e : ℕ} {k : Mark} (x : Expression bs n p d q l) → scan bs q ≡ Ok (Some (a_word (word.Mark k) e)) → opened_by k d ≤ 16 → Lies bs p d (words x.tree ++ word.Mark k ∷ []) (skip bs e) (opened_by k d)
   tree-by {n} {p} {d} {q} {l} {e} {k} x h o = lies-append (words x.tree) (word.Mark k ∷ []) p d q d _ _ x.lies (e, h, o, (refl, refl))
 
-  pub then-leads : {m p d q l e : ℕ} (x : Expression bs 3 p d q l) → scan bs q ≡ Word (word.Mark Then) e → d ≤ 16 → Leads (at_in (test m) 3) (at_in (branch m x.tree) 3) p d (skip bs e) d
+  pub then-leads : {m p d q l e : ℕ} (x : Expression bs 3 p d q l) → scan bs q ≡ Ok (Some (a_word (word.Mark Then) e)) → d ≤ 16 → Leads (at_in (test m) 3) (at_in (branch m x.tree) 3) p d (skip bs e) d
   then-leads {m} x h o = record { by = words x.tree ++ word.Mark Then ∷ []; lies = tree-by x h o; goes = λ es a fs. along es a x.tree (test m ∷ fs) 3 (word.Mark Then) [] x.fits (mark-stops x.tree Then) }
 
-  pub else-leads : {m p d q l e : ℕ} (c : Tree) (x : Expression bs 3 p d q l) → scan bs q ≡ Word (word.Mark Else) e → d ≤ 16 → Leads (at_in (branch m c) 3) (at_in (other m c x.tree) 3) p d (skip bs e) d
+  pub else-leads : {m p d q l e : ℕ} (c : Tree) (x : Expression bs 3 p d q l) → scan bs q ≡ Ok (Some (a_word (word.Mark Else) e)) → d ≤ 16 → Leads (at_in (branch m c) 3) (at_in (other m c x.tree) 3) p d (skip bs e) d
   else-leads {m} c x h o = record { by = words x.tree ++ word.Mark Else ∷ []; lies = tree-by x h o; goes = λ es a fs. along es a x.tree (branch m c ∷ fs) 3 (word.Mark Else) [] x.fits (mark-stops x.tree Else) }
 
   -- an expression and then no mark that its frame waits for
@@ -171,7 +187,7 @@ module _ (bs : List ℕ) where
   pub no-else : {n p d q l : ℕ} {r : Refusal} (c : Tree) (x : Expression bs 3 p d q l) → Whole bs 3 q l → Missing bs q Else r → Broken bs (at_in (branch n c) 3) p d r
   no-else {n} c x o m = missing Else (branch n c) (λ fs t w i. (cond-false _ _ _ i, refl)) x o m
 
-  pub group-read : {n p d e q l g : ℕ} → scan bs p ≡ Word (word.Mark Open) e → n ≤ 11 → d < 16 → (x : Expression bs 1 (skip bs e) (d + 1) q l) → scan bs q ≡ Word (word.Mark Close) g → Expression bs n p d (skip bs g) 11
+  pub group-read : {n p d e q l g : ℕ} → scan bs p ≡ Ok (Some (a_word (word.Mark Open) e)) → n ≤ 11 → d < 16 → (x : Expression bs 1 (skip bs e) (d + 1) q l) → scan bs q ≡ Ok (Some (a_word (word.Mark Close) g)) → Expression bs n p d (skip bs g) 11
   group-read {n} {p} {d} {e} {q} {l} {g} h k lt x i =
       let back : d + 1 - 1 ≡ d = omega arith in
       record {
@@ -183,10 +199,10 @@ module _ (bs : List ℕ) where
       }
 
   -- what an operand at the right end says of the next word
-  ends : {n p d q l : ℕ} (x : Expression bs n p d q l) → Whole bs n q l → {w : Token} {e : ℕ} → scan bs q ≡ Word w e → (takes n (level_of x.tree) w ≡ None) × Stops x.tree w
+  ends : {n p d q l : ℕ} (x : Expression bs n p d q l) → Whole bs n q l → {w : Token} {e : ℕ} → scan bs q ≡ Ok (Some (a_word w e)) → (takes n (level_of x.tree) w ≡ None) × Stops x.tree w
   ends {n} x o {w} {e} h = (ap (λ j. takes n j w) x.level ∙ o.none w e h, x.stops h)
 
-  pub choice-read : {n p d e q₁ l₁ e₁ q₂ l₂ e₂ q₃ l₃ : ℕ} → scan bs p ≡ Word (word.Mark If) e → n ≤ 3 → d ≤ 16 → (x : Expression bs 3 (skip bs e) d q₁ l₁) → scan bs q₁ ≡ Word (word.Mark Then) e₁ → (y : Expression bs 3 (skip bs e₁) d q₂ l₂) → scan bs q₂ ≡ Word (word.Mark Else) e₂ → (z : Expression bs 3 (skip bs e₂) d q₃ l₃) → Whole bs 3 q₃ l₃ → Expression bs n p d q₃ 3
+  pub choice-read : {n p d e q₁ l₁ e₁ q₂ l₂ e₂ q₃ l₃ : ℕ} → scan bs p ≡ Ok (Some (a_word (word.Mark If) e)) → n ≤ 3 → d ≤ 16 → (x : Expression bs 3 (skip bs e) d q₁ l₁) → scan bs q₁ ≡ Ok (Some (a_word (word.Mark Then) e₁)) → (y : Expression bs 3 (skip bs e₁) d q₂ l₂) → scan bs q₂ ≡ Ok (Some (a_word (word.Mark Else) e₂)) → (z : Expression bs 3 (skip bs e₂) d q₃ l₃) → Whole bs 3 q₃ l₃ → Expression bs n p d q₃ 3
   choice-read {e = e} {e₁ = e₁} {e₂ = e₂} h k o x i y j z w = record {
     tree = choice x.tree y.tree z.tree;
     fits = (k, x.fits, y.fits, z.fits);
@@ -196,16 +212,16 @@ module _ (bs : List ℕ) where
   }
 
   -- prefix operators
-  prefix-lies : (p d e q : ℕ) (u : Prefix) (ws : List Token) → scan bs p ≡ Word (symbol u) e → d ≤ 16 → Lies bs (skip bs e) d ws q d → Lies bs p d (symbol u ∷ ws) q d
+  prefix-lies : (p d e q : ℕ) (u : Prefix) (ws : List Token) → scan bs p ≡ Ok (Some (a_word (symbol u) e)) → d ≤ 16 → Lies bs (skip bs e) d ws q d → Lies bs p d (symbol u ∷ ws) q d
   prefix-lies p d e q Negate ws h o l = (e, h, o, l)
   prefix-lies p d e q First ws h o l = (e, h, o, l)
   prefix-lies p d e q Next ws h o l = (e, h, o, l)
   prefix-lies p d e q Not ws h o l = (e, h, o, l)
 
-  pub prefix-leads : {n p d e : ℕ} (u : Prefix) → scan bs p ≡ Word (symbol u) e → n ≤ prefix_level u → d ≤ 16 → Leads (at n) (at_in (operand n u) (prefix_level u)) p d (skip bs e) d
+  pub prefix-leads : {n p d e : ℕ} (u : Prefix) → scan bs p ≡ Ok (Some (a_word (symbol u) e)) → n ≤ prefix_level u → d ≤ 16 → Leads (at n) (at_in (operand n u) (prefix_level u)) p d (skip bs e) d
   prefix-leads {n} {p} {d} {e} u h k o = record { by = symbol u ∷ []; lies = prefix-lies p d e _ u [] h o (refl, refl); goes = λ es a fs. one es a (due fs n) (due (operand n u ∷ fs) (prefix_level u)) (symbol u) [] (begins fs n u k) }
 
-  pub prefix-read : {n p d e q l : ℕ} (u : Prefix) → scan bs p ≡ Word (symbol u) e → n ≤ prefix_level u → d ≤ 16 → (x : Expression bs (prefix_level u) (skip bs e) d q l) → Whole bs (prefix_level u) q l → Expression bs n p d q (prefix_level u)
+  pub prefix-read : {n p d e q l : ℕ} (u : Prefix) → scan bs p ≡ Ok (Some (a_word (symbol u) e)) → n ≤ prefix_level u → d ≤ 16 → (x : Expression bs (prefix_level u) (skip bs e) d q l) → Whole bs (prefix_level u) q l → Expression bs n p d q (prefix_level u)
   prefix-read {p = p} {d = d} {e = e} {q = q} u h k o x w = record { tree = prefix u x.tree; fits = (k, x.fits); lies = prefix-lies p d e q u (words x.tree) h o x.lies; level = refl; stops = λ s. ends x w s }
 
   -- operators between two operands
@@ -214,7 +230,7 @@ module _ (bs : List ℕ) where
       let h = taken n l (word.Infix op) op t in
       (h.low, refit n (levels op).left x.tree (subst (λ j. (levels op).left ≤ j) (sym x.level) h.high) x.fits)
 
-  pub infix-leads : {n p d q l e : ℕ} (op : Infix) (x : Expression bs n p d q l) → scan bs q ≡ Word (word.Infix op) e → takes n l (word.Infix op) ≡ Some op → d ≤ 16 → Leads (at n) (at_in (right n op x.tree) (levels op).right) p d (skip bs e) d
+  pub infix-leads : {n p d q l e : ℕ} (op : Infix) (x : Expression bs n p d q l) → scan bs q ≡ Ok (Some (a_word (word.Infix op) e)) → takes n l (word.Infix op) ≡ Some op → d ≤ 16 → Leads (at n) (at_in (right n op x.tree) (levels op).right) p d (skip bs e) d
   infix-leads {n} {p} {d} {q} {l} {e} op x h t o =
       let f = left-of op x t in
       record {
@@ -223,7 +239,7 @@ module _ (bs : List ℕ) where
         goes = λ es a fs. infix-left es a op x.tree fs n [] f.0 f.1;
       }
 
-  pub infix-read : {n p d q l e q₂ l₂ : ℕ} (op : Infix) (x : Expression bs n p d q l) → scan bs q ≡ Word (word.Infix op) e → takes n l (word.Infix op) ≡ Some op → d ≤ 16 → (y : Expression bs (levels op).right (skip bs e) d q₂ l₂) → Whole bs (levels op).right q₂ l₂ → Expression bs n p d q₂ (levels op).own
+  pub infix-read : {n p d q l e q₂ l₂ : ℕ} (op : Infix) (x : Expression bs n p d q l) → scan bs q ≡ Ok (Some (a_word (word.Infix op) e)) → takes n l (word.Infix op) ≡ Some op → d ≤ 16 → (y : Expression bs (levels op).right (skip bs e) d q₂ l₂) → Whole bs (levels op).right q₂ l₂ → Expression bs n p d q₂ (levels op).own
   infix-read {n} {p} {d} {q} {l} {e} op x h t o y w =
       let f = left-of op x t in
       record {
@@ -234,7 +250,7 @@ module _ (bs : List ℕ) where
         stops = λ s. ends y w s;
       }
 
-  pub no-word-after : {n p d q l : ℕ} (x : Expression bs n p d q l) → scan bs q ≡ Bad → Broken bs (at n) p d (NoWord q)
+  pub no-word-after : {n p d q l : ℕ} (x : Expression bs n p d q l) → scan bs q ≡ Err not_a_word → Broken bs (at n) p d (NoWord q)
   no-word-after {n} {p} {d} {q} x h = record {
     read = words x.tree;
     place = q;
@@ -244,19 +260,12 @@ module _ (bs : List ℕ) where
     stuck = λ es a fs. no_word (bad h);
   }
 
-  -- the next word and what it is not
-  pub whole-none : {n q l e : ℕ} {w : Token} → scan bs q ≡ Word w e → takes n l w ≡ None → Whole bs n q l
-  whole-none {n} {q} {l} {e} {w} h k = record { none = λ v g i. let same : w ≡ v = cc in ap (takes n l) (sym same) ∙ k }
+-- The same at an equal text and place, as the code has them.
+pub moved_ok : {bs bs' : List ℕ} {n p p' d q l : ℕ} → bs' ≡ bs → p' ≡ p → Expression bs' n p' d q l × Whole bs' n q l → Expression bs n p d q l × Whole bs n q l
+moved_ok {bs} {bs'} {n} {p} {p'} {d} {q} {l} e f h = subst (λ b. Expression b n p d q l × Whole b n q l) e (subst (λ y. Expression bs' n y d q l × Whole bs' n q l) f h)
 
-  pub whole-end : {n q l : ℕ} → scan bs q ≡ Finish → Whole bs n q l
-  whole-end h = record { none = λ v g i. absurd (let z : ◌≡◌ {A = ℕ} 0 1 = cc in omega arith) }
-
--- The same at an equal text, place and depth, as the code has them.
-pub moved_ok : {bs bs' : List ℕ} {n p p' d d' q l : ℕ} → bs' ≡ bs → p' ≡ p → d' ≡ d → Expression bs' n p' d' q l × Whole bs' n q l → Expression bs n p d q l × Whole bs n q l
-moved_ok {bs} {bs'} {n} {p} {p'} {d} {d'} {q} {l} e f g h = subst (λ b. Expression b n p d q l × Whole b n q l) e (subst (λ y. Expression bs' n y d q l × Whole bs' n q l) f (subst (λ z. Expression bs' n p' z q l × Whole bs' n q l) g h))
-
-pub moved-err : {bs bs' : List ℕ} {x : List Frame → Spot} {p p' d d' : ℕ} {r : Refusal} → bs' ≡ bs → p' ≡ p → d' ≡ d → Broken bs' x p' d' r → Broken bs x p d r
-moved-err {bs} {bs'} {x} {p} {p'} {d} {d'} {r} e f g h = subst (λ b. Broken b x p d r) e (subst (λ y. Broken bs' x y d r) f (subst (λ z. Broken bs' x p' z r) g h))
+pub moved-err : {bs bs' : List ℕ} {x : List Frame → Spot} {p p' d : ℕ} {r : Refusal} → bs' ≡ bs → p' ≡ p → Broken bs' x p' d r → Broken bs x p d r
+moved-err {bs} {bs'} {x} {p} {p'} {d} {r} e f h = subst (λ b. Broken b x p d r) e (subst (λ y. Broken bs' x y d r) f h)
 
 -- a word that begins no expression of level n
 pub no-mark-begins : (n : ℕ) (m : Mark) (fs : List Frame) → (m ≡ Open → ⊥) → (m ≡ If → ⊥) → begin fs n (word.Mark m) ≡ None
@@ -298,28 +307,28 @@ pub low-prefix-begins : (w : Token) (n : ℕ) (u : Prefix) → Begins w → as_p
 low-prefix-begins w n u b e h fs = by-prefix w n fs b ∙ ap (begin_prefix fs n) e ∙ cond-false _ _ _ (lt-leb n (prefix_level u) h)
 
 minus-symbol : (op : Infix) (u : Prefix) → minus op ≡ Some u → word.Infix op ≡ symbol u
-minus-symbol Fby u e = absurd (none-some e)
-minus-symbol Asa u e = absurd (none-some e)
-minus-symbol Or u e = absurd (none-some e)
-minus-symbol And u e = absurd (none-some e)
-minus-symbol Eq u e = absurd (none-some e)
-minus-symbol Ne u e = absurd (none-some e)
-minus-symbol Lt u e = absurd (none-some e)
-minus-symbol Le u e = absurd (none-some e)
-minus-symbol Gt u e = absurd (none-some e)
-minus-symbol Ge u e = absurd (none-some e)
-minus-symbol Add u e = absurd (none-some e)
-minus-symbol Sub u e = ap symbol (some_is e)
-minus-symbol Mul u e = absurd (none-some e)
-minus-symbol Div u e = absurd (none-some e)
+minus-symbol Fby u e = cc
+minus-symbol Asa u e = cc
+minus-symbol Or u e = cc
+minus-symbol And u e = cc
+minus-symbol Eq u e = cc
+minus-symbol Ne u e = cc
+minus-symbol Lt u e = cc
+minus-symbol Le u e = cc
+minus-symbol Gt u e = cc
+minus-symbol Ge u e = cc
+minus-symbol Add u e = cc
+minus-symbol Sub u e = cc
+minus-symbol Mul u e = cc
+minus-symbol Div u e = cc
 
 pub prefix-word : (w : Token) (u : Prefix) → as_prefix w ≡ Some u → w ≡ symbol u
-prefix-word (word.Atom a) u e = absurd (none-some e)
+prefix-word (word.Atom a) u e = cc
 prefix-word (word.Infix op) u e = minus-symbol op u e
-prefix-word word.First u e = ap symbol (some_is e)
-prefix-word word.Next u e = ap symbol (some_is e)
-prefix-word word.Not u e = ap symbol (some_is e)
-prefix-word (word.Mark m) u e = absurd (none-some e)
+prefix-word word.First u e = cc
+prefix-word word.Next u e = cc
+prefix-word word.Not u e = cc
+prefix-word (word.Mark m) u e = cc
 
 pub moved-level : {bs : List ℕ} {n n' p d q l : ℕ} → n' ≡ n → Expression bs n' p d q l × Whole bs n' q l → Expression bs n p d q l × Whole bs n q l
 moved-level {bs} {n} {n'} {p} {d} {q} {l} e h = subst (λ x. Expression bs x p d q l × Whole bs x q l) e h
@@ -327,30 +336,14 @@ moved-level {bs} {n} {n'} {p} {d} {q} {l} e h = subst (λ x. Expression bs x p d
 pub moved_at : {bs : List ℕ} {n n' p d : ℕ} {r : Refusal} → n' ≡ n → Broken bs (λ fs. due fs n') p d r → Broken bs (λ fs. due fs n) p d r
 moved_at {bs} {n} {n'} {p} {d} {r} e h = subst (λ x. Broken bs (λ fs. due fs x) p d r) e h
 
-pub moved-x : {bs bs' : List ℕ} {n p d d' q l : ℕ} → bs' ≡ bs → d' ≡ d → Expression bs' n p d' q l → Expression bs n p d q l
-moved-x {bs} {bs'} {n} {p} {d} {d'} {q} {l} e g h = subst (λ b. Expression b n p d q l) e (subst (λ z. Expression bs' n p z q l) g h)
-
 pub ends_at : {bs : List ℕ} {n p d q q' l l' : ℕ} → q' ≡ q → l ≡ l' → Expression bs n p d q l → Expression bs n p d q' l'
 ends_at {bs} {n} {p} {d} {q} {q'} {l} {l'} e f h = subst (λ y. Expression bs n p d y l') (sym e) (subst (λ y. Expression bs n p d q y) f h)
 
 pub moved-missing : {bs bs' : List ℕ} {q : ℕ} {m : Mark} {r : Refusal} → bs' ≡ bs → Missing bs' q m r → Missing bs q m r
 moved-missing {q = q} {m = m} {r = r} e h = subst (λ b. Missing b q m r) e h
 
-pub moved-marked : (bs bs' : List ℕ) (q q' : ℕ) (w : Token) → bs' ≡ bs → (e : ℕ) × (scan bs' q ≡ Word w e) × (q' ≡ skip bs' e) → (e : ℕ) × (scan bs q ≡ Word w e) × (q' ≡ skip bs e)
-moved-marked bs bs' q q' w e h = subst (λ b. (g : ℕ) × (scan b q ≡ Word w g) × (q' ≡ skip b g)) e h
-
-pub moved-whole : {bs bs' : List ℕ} {n q q' l : ℕ} → bs' ≡ bs → q ≡ q' → Whole bs' n q l → Whole bs n q' l
-moved-whole {bs} {bs'} {n} {q} {q'} {l} e f h = subst (λ b. Whole b n q' l) e (subst (λ y. Whole bs' n y l) f h)
+pub moved-marked : (bs bs' : List ℕ) (q q' : ℕ) (w : Token) → bs' ≡ bs → (e : ℕ) × (scan bs' q ≡ Ok (Some (a_word w e))) × (q' ≡ skip bs' e) → (e : ℕ) × (scan bs q ≡ Ok (Some (a_word w e))) × (q' ≡ skip bs e)
+moved-marked bs bs' q q' w e h = subst (λ b. (g : ℕ) × (scan b q ≡ Ok (Some (a_word w g))) × (q' ≡ skip b g)) e h
 
 pub no-word-is : {bs : List ℕ} {x : List Frame → Spot} {p d q : ℕ} {r : Refusal} → r ≡ NoWord q → Broken bs x p d (NoWord q) → Broken bs x p d r
 no-word-is {bs} {x} {p} {d} e h = subst (λ r. Broken bs x p d r) (sym e) h
-
-pub moved-operand : (bs bs' : List ℕ) (n p d d' q : ℕ) (r : Result Part Refusal) → bs' ≡ bs → d' ≡ d → OperandRead bs' n p d' q r → OperandRead bs n p d q r
-moved-operand bs bs' n p d d' q r e g h = subst (λ b. OperandRead b n p d q r) e (subst (λ z. OperandRead bs' n p z q r) g h)
-
-pub moved-kept : {A : Type 0} (d d' c : ℕ) (r : Result A Refusal) → d' ≡ d → Kept d' c r → Kept d c r
-moved-kept d d' c r e h = subst (λ z. Kept z c r) e h
-
-pub moved_more : {A : Type 0} (n n' p p' q : ℕ) (r : Result A Refusal) → n' ≡ n → p ≤ p' → Moved n' p' q r → Moved n p q r
-moved_more n n' p p' q (Ok u) e l h = (omega arith, omega arith)
-moved_more n n' p p' q (Err r) e l h = tt

@@ -1,5 +1,6 @@
 -- How the unchecked table is filled.
-use Rattle.std.specs.Prelude.{ℕ, ◌+◌, cond, List, replicate, Some, None, fold, Option, nat_lt, slice_set}
+use Rattle.std.specs.Prelude.{ℕ, ◌+◌, cond, List, replicate, Some, None, fold, nat_lt, slice_set}
+use Rattle.std.specs.Option.{option_or}
 use Rattle.lexer.specs.declared.token.Atom.{Atom}
 use Rattle.lexer.specs.declared.token.Atom.TheVariants as atom
 use Rattle.syntax.specs.declared.draft.Operand.{Operand}
@@ -53,17 +54,12 @@ placed d (node.Choice a b c) = (operand.Row d.rows, with_row d (node.Choice a b 
 abbrev pub placed_part : Node × Draft → Operand × Draft
 placed_part x = placed x.1 x.0
 
--- The first of the equations that are too many is kept.
-abbrev pub first_of : Option ℕ → ℕ → Option ℕ
-first_of (Some q) p = Some q
-first_of None p = Some p
-
--- The draft with one equation more, if there is room for it.
+-- The draft with one equation more, if there is room for it; else the place of the first that there is none for is kept.
 abbrev pub defined : Draft → Atom → ℕ → Node → Draft
 defined d a p n =
     cond (nat_lt d.count equation_limit)
     (record { equations = slice_set d.equations d.count (record { head = a; place = p; node = n; rows = d.rows }); count = d.count + 1; excess = d.excess; operands = d.operands; rows = d.rows; end = d.end })
-    (record { equations = d.equations; count = d.count; excess = first_of d.excess p; operands = d.operands; rows = d.rows; end = d.end })
+    (record { equations = d.equations; count = d.count; excess = option_or d.excess (Some p); operands = d.operands; rows = d.rows; end = d.end })
 
 -- What an expression is at its outermost operator, and the draft after it was read: each operand in turn is read and placed.
 abbrev pub built : Draft → Term → Node × Draft

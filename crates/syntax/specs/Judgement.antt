@@ -1,14 +1,13 @@
 -- When a text is accepted, and where it is refused.
-use Rattle.std.specs.Prelude.{◌≡◌, ℕ, ◌<◌, ◌≤◌, Bool, true, false, List, [], ◌∷◌, ◌++◌, length, Some, Ok, Err, Result}
+use Rattle.std.specs.Prelude.{◌≡◌, ℕ, ◌<◌, ◌≤◌, Bool, true, false, List, [], ◌∷◌, ◌++◌, length, Some, Ok, Err, Result, None}
 use Rattle.lexer.specs.declared.token.Mark.TheVariants.{Open}
 use Rattle.lexer.specs.declared.token.Token.{Token}
 use Rattle.lexer.specs.declared.token.Token.TheVariants as word
-use Rattle.lexer.specs.declared.lexer.Next.TheVariants.{Word, Finish, Bad}
 use Rattle.syntax.specs.declared.refusal.Refusal.{Refusal}
 use Rattle.syntax.specs.declared.refusal.Refusal.TheVariants.{TooLong, NoWord, Unexpected, TooDeep}
 use Rattle.grammar.specs.Grammar.{Equation, Text, Viable}
 use Rattle.grammar.specs.Machine.{State, name, ended, run, start}
-use Rattle.lexer.specs.Lexer.{skip, scan}
+use Rattle.lexer.specs.Lexer.{skip, scan, a_word, not_a_word}
 use Rattle.syntax.specs.Reading.{limit, Lies}
 
 -- The number of a refusal.
@@ -28,10 +27,10 @@ place (TooDeep p) = p
 -- What is wrong at the place q, after the words ws, where c brackets are open:
 -- no word; the end, where ws is no text; a word that no text has after ws; a bracket too deep.
 pub data Wrong (bs : List ℕ) (ws : List Token) (q c : ℕ) : Refusal → Type 0 where
-  no_word : scan bs q ≡ Bad → Wrong bs ws q c (NoWord q)
-  too_short : scan bs q ≡ Finish → (Text ws → ⊥) → Wrong bs ws q c (Unexpected q)
-  no_text : {w : Token} {e : ℕ} → scan bs q ≡ Word w e → (Viable (ws ++ w ∷ []) → ⊥) → Wrong bs ws q c (Unexpected q)
-  too_deep : {e : ℕ} → scan bs q ≡ Word (word.Mark Open) e → Viable (ws ++ word.Mark Open ∷ []) → c ≡ limit → Wrong bs ws q c (TooDeep q)
+  no_word : scan bs q ≡ Err not_a_word → Wrong bs ws q c (NoWord q)
+  too_short : scan bs q ≡ Ok None → (Text ws → ⊥) → Wrong bs ws q c (Unexpected q)
+  no_text : {w : Token} {e : ℕ} → scan bs q ≡ Ok (Some (a_word w e)) → (Viable (ws ++ w ∷ []) → ⊥) → Wrong bs ws q c (Unexpected q)
+  too_deep : {e : ℕ} → scan bs q ≡ Ok (Some (a_word (word.Mark Open) e)) → Viable (ws ++ word.Mark Open ∷ []) → c ≡ limit → Wrong bs ws q c (TooDeep q)
 
 -- The words up to a place begin a text, and there something is wrong.
 pub record Refused (bs : List ℕ) (r : Refusal) : Type 0 where
@@ -48,7 +47,7 @@ pub record Accepted (bs : List ℕ) : Type 0 where
   pub place : ℕ
   pub depth : ℕ
   pub lies : Lies bs (skip bs 0) 0 words place depth
-  pub ends : scan bs place ≡ Finish
+  pub ends : scan bs place ≡ Ok None
   pub text : Text words
 
 -- A text has at most 4,096 bytes.

@@ -1,7 +1,7 @@
 -- What an expression says once its brackets are gone, and where its names stand.
-use Rattle.std.specs.Prelude.{ℕ, Bool, List, [], ◌∷◌}
-use Rattle.lexer.specs.declared.lexer.Next.{Next}
-use Rattle.lexer.specs.declared.lexer.Next.TheVariants.{Word, Finish, Bad}
+use Rattle.std.specs.Prelude.{ℕ, Bool, List, [], ◌∷◌, Some, None, Ok, Err, Option, Result}
+use Rattle.lexer.specs.declared.lexer.NotAWord.{NotAWord}
+use Rattle.lexer.specs.declared.lexer.Word.{Word}
 use Rattle.lexer.specs.declared.token.Atom.{Atom}
 use Rattle.lexer.specs.declared.token.Atom.TheVariants as atom
 use Rattle.lexer.specs.declared.token.Infix.{Infix}
@@ -77,10 +77,10 @@ closing next p e [] = past_equation next p e
 closing next p e (f ∷ fs) = closing next (next (past_equation next p e)) f fs
 
 -- Where the word ends that was found at the place p.
-abbrev pub end_from : ℕ → Next → ℕ
-end_from p (Word w e) = e
-end_from p Finish = p
-end_from p Bad = p
+abbrev pub end_from : ℕ → Result (Option Word) NotAWord → ℕ
+end_from p (Ok (Some w)) = w.end
+end_from p (Ok None) = p
+end_from p (Err e) = p
 
 -- The place of the word after the one at p.
 abbrev pub next_word : List ℕ → ℕ → ℕ

@@ -1,7 +1,7 @@
 //! The unchecked table: what a text says, row by row, with its names not yet looked up.
 
 ghost use Rattle.std.specs.Prelude.{◌≡◌, ◌≤◌, length, take};
-ghost use Rattle.syntax.specs.Drafts.{empty as empty-draft, node_of as atom-node, placed, with_row, defined, equation_limit};
+ghost use Rattle.syntax.specs.Drafts.{empty, node_of, placed, with_row, defined, equation_limit};
 
 use lexer::{Atom, Infix, Name, Prefix};
 
@@ -32,7 +32,7 @@ pub enum Node {
 
 /// The node of a name, a channel, a literal or a truth word at a place.
 pub(crate) fn node_of(atom: Atom, place: usize) -> Node
-    ensures { result ≡ atom-node atom place }
+    ensures { result ≡ node_of atom place }
 {
     match atom {
         Atom::Name(name) => Node::Name(name, place),
@@ -55,6 +55,7 @@ pub struct Equation {
 }
 
 /// The equations in text order, and the operand rows in the order in which they arise.
+// Arrays with their counts: a `Vec` would ask for memory, and this type is Copy, which an `ArrayVec` is not.
 #[derive(Clone, Copy)]
 pub struct Draft {
     /// The equations, of which the first `count` are filled.
@@ -71,7 +72,7 @@ pub struct Draft {
 
 /// The draft of no equation.
 pub(crate) fn empty() -> Draft
-    ensures { result ≡ empty-draft }
+    ensures { result ≡ empty }
 {
     let node = Node::Literal(0);
     let equation = Equation {
@@ -129,8 +130,8 @@ impl Draft {
                 rows: self.rows,
             };
             self.count += 1;
-        } else if let None = self.excess {
-            self.excess = Some(place);
+        } else {
+            self.excess = self.excess.or(Some(place));
         }
     }
 
@@ -139,10 +140,6 @@ impl Draft {
         ensures value { result.now ≡ take self.now.count self.now.equations }
         ensures few { length result.now ≤ equation_limit }
     {
-        if self.count < EQUATIONS {
-            &self.equations[..self.count]
-        } else {
-            &self.equations
-        }
+        self.equations.get(..self.count).unwrap_or(&self.equations)
     }
 }

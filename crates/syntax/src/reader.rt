@@ -1,15 +1,16 @@
 //! Reads a text, and fills the table while it reads.
 
-ghost use Rattle.std.specs.Prelude.{◌≡◌, ℕ, ◌+◌, ◌<◌, ◌≤◌, length};
+ghost use Rattle.std.specs.Prelude.{◌≡◌, ℕ, ◌+◌, ◌<◌, ◌≤◌, length, IfOk};
+ghost use Rattle.std.specs.Option.{IfSome};
 ghost use Rattle.grammar.specs.Grammar.{atom_level};
-ghost use Rattle.lexer.specs.Lexer.{skip as skipped};
+ghost use Rattle.lexer.specs.Lexer.{skip, Ends};
 ghost use Rattle.syntax.specs.Judgement.{Due, Ended, HeaderRead, EquationRead, EquationsRead, FinishRead, Judged};
-ghost use Rattle.syntax.specs.Reading.{limit, Passed, Took, Marked, Moved, Kept, HeadRead, AnotherRead, OperandRead, ExpressionRead, InfixRead, Begins};
+ghost use Rattle.syntax.specs.Reading.{limit, Passed, Peeked, Took, Marked, Moved, HeadRead, AnotherRead, OperandRead, ExpressionRead, InfixRead, Begins};
 
 use crate::draft::{Draft, Node, empty, node_of};
 use crate::refusal::Refusal;
 use grammar::{ATOM, CHOICE, levels_of, names, prefix_level, prefix_of, takes};
-use lexer::{Atom, Infix, Mark, Next, Token, scan, skip};
+use lexer::{Atom, Infix, Mark, Token, Word, scan, skip};
 
 // The most bytes of a text.
 const MOST: usize = 4096;
@@ -24,39 +25,47 @@ pub struct Part {
     node: Node,
 }
 
-// A text, the place of the next word, how many brackets are open there, and the table of what was read.
+// Where an expression stands: the lowest level that it may have, and how many brackets are open around it.
+#[derive(Clone, Copy)]
+pub struct Context {
+    level: u8,
+    depth: usize,
+    ghost low: { level ≤ atom_level },
+    ghost within_limit: { depth ≤ limit },
+}
+
+// A text, the place of the next word, and the table of what was read.
 #[derive(Drop)]
 pub struct Reader<'a> {
     text: &'a [u8],
     place: usize,
-    depth: usize,
     draft: Draft,
 }
 
 impl<'a> Reader<'a> {
+    // The next word, which is not passed; none at the text's end.
+    fn peek(&self) -> Result<Option<Word>, Refusal>
+        ensures peeked { Peeked self.now.text.now self.now.place result }
+        ensures ends { IfOk result (λ found. IfSome found (Ends self.now.place (length self.now.text.now))) }
+    {
+        let at = self.place;
+        scan(self.text, at).map_err(|_| Refusal::NoWord(at))
+    }
+
     // The next word, which is passed.
     fn word(&mut self) -> Result<Token, Refusal>
-        requires { self.old.place ≤ length self.old.text.now }
         ensures text { self.new.text ≡ self.old.text }
-        ensures depth { self.new.depth ≡ self.old.depth }
         ensures moved { Moved (length self.old.text.now) self.old.place self.new.place result }
         ensures took { Took self.old.text.now self.old.place self.new.place result }
     {
-        match scan(self.text, self.place) {
-            Next::Word(token, end) => {
-                self.place = skip(self.text, end);
-                Ok(token)
-            }
-            Next::Finish => Err(Refusal::Unexpected(self.place)),
-            Next::Bad => Err(Refusal::NoWord(self.place)),
-        }
+        let word = self.peek()?.ok_or(Refusal::Unexpected(self.place))?;
+        self.place = skip(self.text, word.end);
+        Ok(word.token)
     }
 
     // The next word, which has to be the mark.
     fn expect(&mut self, mark: Mark) -> Result<(), Refusal>
-        requires { self.old.place ≤ length self.old.text.now }
         ensures text { self.new.text ≡ self.old.text }
-        ensures depth { self.new.depth ≡ self.old.depth }
         ensures moved { Moved (length self.old.text.now) self.old.place self.new.place result }
         ensures marked { Marked self.old.text.now self.old.place self.new.place mark result }
     {
@@ -73,44 +82,36 @@ impl<'a> Reader<'a> {
 
     // The operator, if one goes on with an expression; it is passed.
     fn infix(&mut self, min: u8, level: u8) -> Result<Option<Infix>, Refusal>
-        requires { self.old.place ≤ length self.old.text.now }
         ensures text { self.new.text ≡ self.old.text }
-        ensures depth { self.new.depth ≡ self.old.depth }
-        ensures high { self.new.place ≤ length self.old.text.now }
+        ensures high { self.old.place ≤ length self.old.text.now → self.new.place ≤ length self.old.text.now }
         ensures read { InfixRead self.old.text.now min level self.old.place self.new.place result }
     {
-        match scan(self.text, self.place) {
-            Next::Word(token, end) => {
-                let Some(op) = takes(min, level, token) else {
-                    return Ok(None);
-                };
-                self.place = skip(self.text, end);
-                Ok(Some(op))
-            }
-            Next::Finish => Ok(None),
-            Next::Bad => Err(Refusal::NoWord(self.place)),
-        }
+        let Some(word) = self.peek()? else {
+            return Ok(None);
+        };
+        let Some(op) = takes(min, level, word.token) else {
+            return Ok(None);
+        };
+        self.place = skip(self.text, word.end);
+        Ok(Some(op))
     }
 
     // A bracketed expression, whose bracket, at `at`, is passed.
-    #[cycle(bracket_choice_expression_operand_prefix)]
-    fn bracket(&mut self, min: u8, at: usize) -> Result<Part, Refusal>
-        requires place { self.old.place ≤ length self.old.text.now }
-        requires depth { self.old.depth ≤ limit }
-        requires low { min ≤ atom_level }
+    #[cycle(expression)]
+    fn bracket(&mut self, context: Context, at: usize) -> Result<Part, Refusal>
         requires passed { Passed self.old.text.now at self.old.place (Token.Mark Mark.Open) }
         ensures text { self.new.text ≡ self.old.text }
-        ensures depth { Kept self.old.depth self.new.depth result }
         ensures moved { Moved (length self.old.text.now) self.old.place self.new.place result }
-        ensures read { OperandRead self.old.text.now min at self.old.depth self.new.place result }
+        ensures read { OperandRead self.old.text.now context.level at context.depth self.new.place result }
     {
-        if self.depth >= LIMIT {
+        if context.depth >= LIMIT {
             return Err(Refusal::TooDeep(at));
         }
-        self.depth += 1;
-        let inner = self.expression(1)?;
+        let inner = self.expression(Context {
+            level: 1,
+            depth: context.depth + 1,
+        })?;
         self.expect(Mark::Close)?;
-        self.depth -= 1;
         Ok(Part {
             level: ATOM,
             node: inner.node,
@@ -118,27 +119,27 @@ impl<'a> Reader<'a> {
     }
 
     // An `if`, whose first word, at `at`, is passed.
-    #[cycle(bracket_choice_expression_operand_prefix)]
-    fn choice(&mut self, min: u8, at: usize) -> Result<Part, Refusal>
-        requires place { self.old.place ≤ length self.old.text.now }
-        requires depth { self.old.depth ≤ limit }
-        requires low { min ≤ atom_level }
+    #[cycle(expression)]
+    fn choice(&mut self, context: Context, at: usize) -> Result<Part, Refusal>
         requires passed { Passed self.old.text.now at self.old.place (Token.Mark Mark.If) }
         ensures text { self.new.text ≡ self.old.text }
-        ensures depth { Kept self.old.depth self.new.depth result }
         ensures moved { Moved (length self.old.text.now) self.old.place self.new.place result }
-        ensures read { OperandRead self.old.text.now min at self.old.depth self.new.place result }
+        ensures read { OperandRead self.old.text.now context.level at context.depth self.new.place result }
     {
-        if min > CHOICE {
+        if context.level > CHOICE {
             return Err(Refusal::Unexpected(at));
         }
-        let test = self.expression(CHOICE)?;
+        let context = Context {
+            level: CHOICE,
+            depth: context.depth,
+        };
+        let test = self.expression(context)?;
         let test = self.draft.place(test.node);
         self.expect(Mark::Then)?;
-        let branch = self.expression(CHOICE)?;
+        let branch = self.expression(context)?;
         let branch = self.draft.place(branch.node);
         self.expect(Mark::Else)?;
-        let other = self.expression(CHOICE)?;
+        let other = self.expression(context)?;
         let other = self.draft.place(other.node);
         Ok(Part {
             level: CHOICE,
@@ -147,26 +148,23 @@ impl<'a> Reader<'a> {
     }
 
     // An operator and its operand, whose first word, `token` at `at`, is passed.
-    #[cycle(bracket_choice_expression_operand_prefix)]
-    fn prefix(&mut self, min: u8, at: usize, token: Token) -> Result<Part, Refusal>
-        requires place { self.old.place ≤ length self.old.text.now }
-        requires depth { self.old.depth ≤ limit }
-        requires low { min ≤ atom_level }
+    #[cycle(expression)]
+    fn prefix(&mut self, context: Context, at: usize, token: Token) -> Result<Part, Refusal>
         requires passed { Passed self.old.text.now at self.old.place token }
         requires begins { Begins token }
         ensures text { self.new.text ≡ self.old.text }
-        ensures depth { Kept self.old.depth self.new.depth result }
         ensures moved { Moved (length self.old.text.now) self.old.place self.new.place result }
-        ensures read { OperandRead self.old.text.now min at self.old.depth self.new.place result }
+        ensures read { OperandRead self.old.text.now context.level at context.depth self.new.place result }
     {
-        let Some(op) = prefix_of(token) else {
-            return Err(Refusal::Unexpected(at));
-        };
+        let op = prefix_of(token).ok_or(Refusal::Unexpected(at))?;
         let level = prefix_level(op);
-        if min > level {
+        if context.level > level {
             return Err(Refusal::Unexpected(at));
         }
-        let inner = self.expression(level)?;
+        let inner = self.expression(Context {
+            level,
+            depth: context.depth,
+        })?;
         let inner = self.draft.place(inner.node);
         Ok(Part {
             level,
@@ -174,16 +172,12 @@ impl<'a> Reader<'a> {
         })
     }
 
-    // The first part of an expression of level `min`, up to where an operator may follow.
-    #[cycle(bracket_choice_expression_operand_prefix)]
-    fn operand(&mut self, min: u8) -> Result<Part, Refusal>
-        requires place { self.old.place ≤ length self.old.text.now }
-        requires depth { self.old.depth ≤ limit }
-        requires low { min ≤ atom_level }
+    // The first part of an expression, up to where an operator may follow.
+    #[cycle(expression)]
+    fn operand(&mut self, context: Context) -> Result<Part, Refusal>
         ensures text { self.new.text ≡ self.old.text }
-        ensures depth { Kept self.old.depth self.new.depth result }
         ensures moved { Moved (length self.old.text.now) self.old.place self.new.place result }
-        ensures read { OperandRead self.old.text.now min self.old.place self.old.depth self.new.place result }
+        ensures read { OperandRead self.old.text.now context.level self.old.place context.depth self.new.place result }
     {
         let at = self.place;
         match self.word()? {
@@ -192,30 +186,29 @@ impl<'a> Reader<'a> {
                 node: node_of(atom, at),
             }),
             Token::Mark(mark) => match mark {
-                Mark::Open => self.bracket(min, at),
-                Mark::If => self.choice(min, at),
+                Mark::Open => self.bracket(context, at),
+                Mark::If => self.choice(context, at),
                 _ => Err(Refusal::Unexpected(at)),
             },
-            token => self.prefix(min, at, token),
+            token => self.prefix(context, at, token),
         }
     }
 
-    // An expression of level `min`, as far as it goes.
-    #[cycle(bracket_choice_expression_operand_prefix)]
-    fn expression(&mut self, min: u8) -> Result<Part, Refusal>
-        requires place { self.old.place ≤ length self.old.text.now }
-        requires depth { self.old.depth ≤ limit }
-        requires low { min ≤ atom_level }
+    // An expression, as far as it goes.
+    #[cycle(expression)]
+    fn expression(&mut self, context: Context) -> Result<Part, Refusal>
         ensures text { self.new.text ≡ self.old.text }
-        ensures depth { Kept self.old.depth self.new.depth result }
         ensures moved { Moved (length self.old.text.now) self.old.place self.new.place result }
-        ensures read { ExpressionRead self.old.text.now min self.old.place self.old.depth self.new.place result }
+        ensures read { ExpressionRead self.old.text.now context.level self.old.place context.depth self.new.place result }
     {
-        let mut part = self.operand(min)?;
-        while let Some(op) = self.infix(min, part.level)? {
+        let mut part = self.operand(context)?;
+        while let Some(op) = self.infix(context.level, part.level)? {
             let levels = levels_of(op);
             let left = self.draft.place(part.node);
-            let right = self.expression(levels.right)?;
+            let right = self.expression(Context {
+                level: levels.right,
+                depth: context.depth,
+            })?;
             let right = self.draft.place(right.node);
             part = Part {
                 level: levels.own,
@@ -227,9 +220,7 @@ impl<'a> Reader<'a> {
 
     // The left side of an equation: a name or a channel.
     fn head(&mut self) -> Result<Atom, Refusal>
-        requires { self.old.place ≤ length self.old.text.now }
         ensures text { self.new.text ≡ self.old.text }
-        ensures depth { self.new.depth ≡ self.old.depth }
         ensures moved { Moved (length self.old.text.now) self.old.place self.new.place result }
         ensures read { HeadRead self.old.text.now self.old.place self.new.place result }
     {
@@ -246,9 +237,7 @@ impl<'a> Reader<'a> {
 
     // Whether another equation follows, after one; the semicolon or `end` is passed.
     fn another(&mut self) -> Result<bool, Refusal>
-        requires { self.old.place ≤ length self.old.text.now }
         ensures text { self.new.text ≡ self.old.text }
-        ensures depth { self.new.depth ≡ self.old.depth }
         ensures moved { Moved (length self.old.text.now) self.old.place self.new.place result }
         ensures read { AnotherRead self.old.text.now self.old.place self.new.place result }
     {
@@ -268,11 +257,8 @@ impl<'a> Reader<'a> {
 
     // The words before the first equation.
     fn header(&mut self) -> Result<(), Refusal>
-        requires place { self.old.place ≤ length self.old.text.now }
-        requires depth { self.old.depth ≡ 0 }
-        requires first { self.old.place ≡ skipped self.old.text.now 0 }
+        requires first { self.old.place ≡ skip self.old.text.now 0 }
         ensures text { self.new.text ≡ self.old.text }
-        ensures depth { Kept 0 self.new.depth result }
         ensures moved { Moved (length self.old.text.now) self.old.place self.new.place result }
         ensures read { HeaderRead self.old.text.now self.new.place result }
     {
@@ -283,29 +269,23 @@ impl<'a> Reader<'a> {
 
     // An equation, with the semicolon or `end` after it; whether another follows.
     fn equation(&mut self) -> Result<bool, Refusal>
-        requires place { self.old.place ≤ length self.old.text.now }
-        requires depth { self.old.depth ≡ 0 }
         requires due { Due self.old.text.now self.old.place }
         ensures text { self.new.text ≡ self.old.text }
-        ensures depth { Kept 0 self.new.depth result }
         ensures moved { Moved (length self.old.text.now) self.old.place self.new.place result }
         ensures read { EquationRead self.old.text.now self.new.place result }
     {
         let at = self.place;
         let head = self.head()?;
         self.expect(Mark::Equals)?;
-        let part = self.expression(1)?;
+        let part = self.expression(Context { level: 1, depth: 0 })?;
         self.draft.define(head, at, part.node);
         self.another()
     }
 
     // All equations, with `end` after the last.
     fn equations(&mut self) -> Result<(), Refusal>
-        requires place { self.old.place ≤ length self.old.text.now }
-        requires depth { self.old.depth ≡ 0 }
         requires due { Due self.old.text.now self.old.place }
         ensures text { self.new.text ≡ self.old.text }
-        ensures depth { Kept 0 self.new.depth result }
         ensures moved { Moved (length self.old.text.now) self.old.place self.new.place result }
         ensures read { EquationsRead self.old.text.now self.new.place result }
     {
@@ -315,14 +295,12 @@ impl<'a> Reader<'a> {
 
     // Whether nothing follows the text.
     fn finish(&self) -> Result<(), Refusal>
-        requires place { self.now.place ≤ length self.now.text.now }
         requires ended { Ended self.now.text.now self.now.place }
         ensures { FinishRead self.now.text.now result }
     {
-        match scan(self.text, self.place) {
-            Next::Word(_, _) => Err(Refusal::Unexpected(self.place)),
-            Next::Finish => Ok(()),
-            Next::Bad => Err(Refusal::NoWord(self.place)),
+        match self.peek()? {
+            Some(_) => Err(Refusal::Unexpected(self.place)),
+            None => Ok(()),
         }
     }
 }
@@ -337,7 +315,6 @@ pub fn parse(text: &[u8]) -> Result<Draft, Refusal>
     let mut reader = Reader {
         text,
         place: skip(text, 0),
-        depth: 0,
         draft: empty(),
     };
     reader.header()?;

@@ -1,7 +1,7 @@
 //! Why a text is refused while it is read.
 
 ghost use Rattle.std.specs.Prelude.{◌≡◌};
-ghost use Rattle.syntax.specs.Judgement.{number as number_of_lem, place as place_of};
+ghost use Rattle.syntax.specs.Judgement.{number, place};
 
 /// Why a text is refused, and the place; the place of a text that is too long is 0.
 #[derive(Clone, Copy)]
@@ -15,7 +15,7 @@ pub enum Refusal {
 impl Refusal {
     /// The number that the refusal is told by.
     pub fn number(self) -> u8
-        ensures { result ≡ number_of_lem self }
+        ensures { result ≡ number self }
     {
         match self {
             Refusal::TooLong => 1,
@@ -27,13 +27,11 @@ impl Refusal {
 
     /// The byte of the text that it is about.
     pub fn place(self) -> usize
-        ensures { result ≡ place_of self }
+        ensures { result ≡ place self }
     {
         match self {
             Refusal::TooLong => 0,
-            Refusal::NoWord(place) => place,
-            Refusal::Unexpected(place) => place,
-            Refusal::TooDeep(place) => place,
+            Refusal::NoWord(place) | Refusal::Unexpected(place) | Refusal::TooDeep(place) => place,
         }
     }
 }

@@ -1,21 +1,17 @@
 -- Which edges a table has.
-use Rattle.std.proofs.Common.{◌≡◌, ℕ, zero, suc, ◌+◌, ◌<◌, ◌≤◌, Bool, true, false, ◌⊎◌, List, [], ◌∷◌, ◌++◌, map, length, get_or, Err, MatchBool, sym, ap, ◌∙◌, subst, inl, inr, add-one, arith}
+use Rattle.std.proofs.Common.{ℕ, zero, suc, ◌<◌, ◌≤◌, List, [], ◌∷◌, map, length, Err, ap, ◌∙◌, subst, inl, inr, arith}
 use native.Mathlib.Decide.{ℕ_discrete}
 use Rattle.std.specs.List.{ContainsAt as Has, AllByRecursion}
-use Rattle.std.proofs.lemmas.List.{get_or-map, length-map, append_assoc}
+use Rattle.std.proofs.lemmas.List.{get_or-map, length-map}
 use Rattle.std.proofs.ByRecursion.{All-append, All-map, All-weaker, all_has_itself, all-has, has_append_left, has_append_right}
-use Rattle.reading.specs.declared.rows.Arithmetic.{Arithmetic}
-use Rattle.reading.specs.declared.rows.Relation.{Relation}
 use Rattle.reading.specs.declared.rows.Row.{Row}
-use Rattle.reading.specs.declared.rows.Row.TheVariants.{Literal, And, Or, Compute, Relate}
 use Rattle.theory.specs.Rule.{row_at}
-use Rattle.theory.specs.Potential.{edges, Label, level}
+use Rattle.theory.specs.Potential.{edges, Label}
 use Rattle.graph.specs.declared.edges.Edge.{Edge}
 use Rattle.graph.specs.declared.plans.Defect.{Defect}
 use Rattle.graph.specs.declared.plans.Defect.TheVariants.{Malformed, Ring}
-use Rattle.graph.specs.Plans.{Analysed}
-use Rattle.graph.specs.Labels.{Within, Outside, SomeOtherRing}
-use Rattle.table.specs.Outcomes.{Tabled, JudgedRows}
+use Rattle.graph.specs.Labels.{Within, SomeOtherRing}
+use Rattle.table.specs.Outcomes.{JudgedRows}
 use Rattle.table.specs.Edges.{edge_of, row_edges, first_edges, table_edges, Closed}
 
 pub has-map : {X Y : Type 0} (f : X → Y) (xs : List X) (x : X) → Has xs x → Has (map f xs) (f x)
@@ -47,49 +43,10 @@ edges-inside rows closed e h =
     (all_first (λ e. (e.from < length rows) × (e.to < length rows)) rows (length rows)
     (λ r k. within_all (length rows) r (edges (row_at rows r)) k (closed r k))) h
 
-pub edges-within : (rows : List Row) → Closed rows → length rows ≤ 64 → Within 64 (table_edges rows)
-edges-within rows closed few e h = let w = edges-inside rows closed e h in (omega (arith, w.0), omega (arith, w.1))
-
--- Edges that were added one by one.
-pub added-two : {X : Type 0} (l m n : List X) (a b : X) → m ≡ l ++ a ∷ [] → n ≡ m ++ b ∷ [] → n ≡ l ++ a ∷ b ∷ []
-added-two l m n a b p q = q ∙ ap (λ k. k ++ b ∷ []) p ∙ append_assoc l _ _
-
-pub added-three : {X : Type 0} (l m n o : List X) (a b c : X) → m ≡ l ++ a ∷ [] → n ≡ m ++ b ∷ [] → o ≡ n ++ c ∷ [] → o ≡ l ++ a ∷ b ∷ c ∷ []
-added-three l m n o a b c p q r = r ∙ ap (λ k. k ++ c ∷ []) (added-two l m n a b p q) ∙ append_assoc l _ _
-
-pub more_edges : (rows : List Row) (i : ℕ) (old new : List Edge) → i < length rows → old ≡ first_edges rows i
-    → new ≡ old ++ row_edges i (get_or rows i (Literal 0)) → new ≡ first_edges rows (i + 1)
-more_edges rows i old new h e f =
-    f ∙ (λ k. e k ++ row_edges i (row_at rows i)) ∙ ap (first_edges rows) (sym (add-one i))
-
--- A row that reads two rows at its own tick.
-pub both-edges : (r x y : ℕ) (row : Row)
-    → (row ≡ And x y) ⊎ ((row ≡ Or x y) ⊎ (((o : Arithmetic) × (row ≡ Compute o x y)) ⊎ ((o : Relation) × (row ≡ Relate o x y))))
-    → row_edges r row ≡ edge_of r (level, x) ∷ edge_of r (level, y) ∷ []
-both-edges r x y row (inl e) = ap (row_edges r) e
-both-edges r x y row (inr (inl e)) = ap (row_edges r) e
-both-edges r x y row (inr (inr (inl e))) = ap (row_edges r) e.1
-both-edges r x y row (inr (inr (inr e))) = ap (row_edges r) e.1
-
 pub closed-from-within : (rows : List Row) → Within (length rows) (table_edges rows) → Closed rows
 closed-from-within rows within r h =
     All-weaker (Has (edges (row_at rows r))) (λ e. e.1 < length rows) (λ e k. (within (edge_of r e) (has-edge rows r e h k)).1) (edges (row_at rows r))
     (all_has_itself (edges (row_at rows r)))
-
-pub closed-when : (rows : List Row) (es : List Edge) (b : Bool) → es ≡ table_edges rows → MatchBool b (Within (length rows) es) (Outside (length rows) es)
-    → MatchBool b (Closed rows) (Outside (length rows) (table_edges rows))
-closed-when rows es true e h = closed-from-within rows (subst (Within (length rows)) e h)
-closed-when rows es false e h = subst (Outside (length rows)) e h
-
--- Rows that read only each other are not malformed.
-pub tabled-err : (rows : List Row) (result : ℕ) (es : List Edge) → es ≡ table_edges rows → length es ≤ 192 → Closed rows → length rows ≤ 64 → result < length rows →
-    (d : Defect) → Analysed es result (Err d) → Tabled rows result (Err d)
-tabled-err rows result es e few closed low is Ring h = subst SomeOtherRing e h
-tabled-err rows result es e few closed low is Malformed (inl many) = absurd (omega arith)
-tabled-err rows result es e few closed low is Malformed (inr (inl past)) = absurd (omega arith)
-tabled-err rows result es e few closed low is Malformed (inr (inr out)) =
-    let w = edges-within rows closed low out.0 (subst (λ x. Has x out.0) e out.1) in
-    absurd (elim out.2 [ inl a ↦ (let k = w.0 in omega arith) | inr b ↦ (let k = w.1 in omega arith) ])
 
 -- So the check of such rows is refused only for a ring.
 pub ring-only : (rows : List Row) (result : ℕ) → Closed rows → length rows ≤ 64 → result < length rows → (d : Defect) → JudgedRows rows result (Err d) → SomeOtherRing (table_edges rows)

@@ -8,15 +8,13 @@ use Rattle.reading.specs.declared.rows.Row.{Row}
 use Rattle.reading.specs.declared.rows.Row.TheVariants.{Literal, Truth, Channel, Same, First, Next, Fby, Asa, If, And, Or, Not, Negate, Compute, Relate}
 use Rattle.theory.specs.Rule.{row_at}
 use Rattle.theory.specs.Potential.{Label, level, ahead, back, beyond, edges}
-use Rattle.graph.specs.declared.plans.Plan.{Plan}
 use Rattle.graph.specs.Labels.{plus, minus, infinite}
 use Rattle.graph.specs.Depths.{asks}
-use Rattle.table.specs.Orders.{Listed, InStep}
-use Rattle.graph.specs.Plans as graph
 use Rattle.table.specs.declared.place.Place.{Place}
-use Rattle.table.specs.Edges.{labelled, edge_of, table_edges, Closed}
+use Rattle.table.specs.Edges.{labelled, edge_of, table_edges}
 use Rattle.table.specs.Layout.{Layout, Planned, Edge, Side, EachEdge, EachSide, place_at, position_at, no_place, is_asa}
-use Rattle.table.specs.Tables.{Greatest, held, asas, place_of, Placed, Inverse, layout}
+use Rattle.table.specs.declared.schedule.Schedule.{Schedule}
+use Rattle.table.specs.Tables.{held, asas, place_of, Checked, layout}
 use Rattle.table.specs.Laws.{TablePlans}
 use Rattle.table.proofs.Edges.{has-edge}
 
@@ -67,70 +65,63 @@ sum_step f xs r q d h k =
 pub held-asa : (row : Row) → is_asa row ≡ true → held row ≡ 1
 held-asa row e = ap (λ (b : Bool). cond b 1 0) e
 
-module _ (rows : List Row) (result : ℕ) (plan : Plan) (places : List Place) (order positions : List ℕ) (lag stages windows size : ℕ) (closed : Closed rows)
-    (result_within : result < length rows) (few : length rows ≤ 64) (p : graph.Planned (table_edges rows) result plan)
-    (lead-most : Greatest plan.lead (length rows) lag) (stage-most : Greatest plan.stage (length rows) stages)
-    (windows_are : windows ≡ sum (take (length rows) plan.depth)) (cells : size ≡ windows + asas rows)
-    (depths_long : length rows ≤ length plan.depth) (places_long : length (take (length rows) places) ≡ length rows)
-    (order_long : length (take (length rows) order) ≡ length rows) (placed : Placed rows plan positions lag windows places (length rows))
-    (inverse : Inverse (take (length rows) order) positions (length rows))
-    (listed : Listed (take (length rows) order)) (in_step : InStep (table_edges rows) plan.lead (take (length rows) order)) where
+module _ (rows : List Row) (result : ℕ) (t : Schedule) (c : Checked rows result t) where
   abbrev laid : Layout
   laid =
       record {
         rows = rows;
-        places = take (length rows) places;
-        order = take (length rows) order;
-        lag = lag;
-        stages = stages;
+        places = take (length rows) t.places;
+        order = take (length rows) t.order;
+        lag = t.lag;
+        stages = t.stages;
         result = result;
-        windows = windows;
-        size = size;
+        windows = t.windows;
+        size = t.size;
       }
 
   abbrev lead : ℕ → ℕ
-  lead r = get_or plan.lead r 0
+  lead r = get_or t.plan.lead r 0
 
   abbrev depth : ℕ → ℕ
-  depth r = get_or plan.depth r 0
+  depth r = get_or t.plan.depth r 0
 
   abbrev stage : ℕ → ℕ
-  stage r = get_or plan.stage r 0
+  stage r = get_or t.plan.stage r 0
 
-  place_at-laid : (r : ℕ) → r < length rows → place_at laid r ≡ place_of rows plan positions lag windows r
-  place_at-laid r h = get_or-take (length rows) places r no_place h ∙ placed r h
+  place_at-laid : (r : ℕ) → r < length rows → place_at laid r ≡ place_of rows t.plan c.positions t.lag t.windows r
+  place_at-laid r h = get_or-take (length rows) t.places r no_place h ∙ c.places_are r h
 
-  delay-at : (r : ℕ) → r < length rows → (place_at laid r).delay ≡ lag - lead r
+  delay-at : (r : ℕ) → r < length rows → (place_at laid r).delay ≡ t.lag - lead r
   delay-at r h = ap (λ (q : Place). q.delay) (place_at-laid r h)
 
   depth-at : (r : ℕ) → r < length rows → (place_at laid r).depth ≡ depth r
   depth-at r h = ap (λ (q : Place). q.depth) (place_at-laid r h)
 
-  start-at : (r : ℕ) → r < length rows → (place_at laid r).start ≡ sum (take r plan.depth)
+  start-at : (r : ℕ) → r < length rows → (place_at laid r).start ≡ sum (take r t.plan.depth)
   start-at r h = ap (λ (q : Place). q.start) (place_at-laid r h)
 
   stage_at : (r : ℕ) → r < length rows → (place_at laid r).stage ≡ stage r
   stage_at r h = ap (λ (q : Place). q.stage) (place_at-laid r h)
 
-  settled_at : (r : ℕ) → r < length rows → (place_at laid r).settled ≡ windows + asas (take r rows)
+  settled_at : (r : ℕ) → r < length rows → (place_at laid r).settled ≡ t.windows + asas (take r rows)
   settled_at r h = ap (λ (q : Place). q.settled) (place_at-laid r h)
 
-  position_at-laid : (r : ℕ) → r < length rows → position_at laid r ≡ get_or positions r 0
+  position_at-laid : (r : ℕ) → r < length rows → position_at laid r ≡ get_or c.positions r 0
   position_at-laid r h = ap (λ (q : Place). q.position) (place_at-laid r h)
 
-  ordered : (k : ℕ) → k < length (take (length rows) order)
-      → (get_or (take (length rows) order) k 0 < length rows) × (position_at laid (get_or (take (length rows) order) k 0) ≡ k)
-  ordered k h = (below, position_at-laid (get_or (take (length rows) order) k 0) below ∙ inverse k (omega (arith, order_long)))
+  ordered : (k : ℕ) → k < length (take (length rows) t.order)
+      → (get_or (take (length rows) t.order) k 0 < length rows) × (position_at laid (get_or (take (length rows) t.order) k 0) ≡ k)
+  ordered k h = (below, position_at-laid (get_or (take (length rows) t.order) k 0) below ∙ c.inverse k (omega (arith, c.order_long)))
     where
-      below : get_or (take (length rows) order) k 0 < length rows
-      below = omega (arith, listed.below k h, order_long)
+      below : get_or (take (length rows) t.order) k 0 < length rows
+      below = omega (arith, c.listed.below k h, c.order_long)
 
   stood : (r : ℕ) → r < length rows
-      → (position_at laid r < length (take (length rows) order)) × (get_or (take (length rows) order) (position_at laid r) 0 ≡ r)
-  stood r h = subst (λ (j : ℕ). (j < length (take (length rows) order)) × (get_or (take (length rows) order) j 0 ≡ r)) (sym here) (k.1, k.2 0)
+      → (position_at laid r < length (take (length rows) t.order)) × (get_or (take (length rows) t.order) (position_at laid r) 0 ≡ r)
+  stood r h = subst (λ (j : ℕ). (j < length (take (length rows) t.order)) × (get_or (take (length rows) t.order) j 0 ≡ r)) (sym here) (k.1, k.2 0)
     where
-      k : Has (take (length rows) order) r
-      k = listed.all r (omega (arith, order_long))
+      k : Has (take (length rows) t.order) r
+      k = c.listed.all r (omega (arith, c.order_long))
 
       here : position_at laid r ≡ k.0
       here = ap (position_at laid) (sym (k.2 0)) ∙ (ordered k.0 k.1).1
@@ -142,19 +133,19 @@ module _ (rows : List Row) (result : ℕ) (plan : Plan) (places : List Place) (o
   along : (a : ℕ) → a < length rows → AllByRecursion (λ e. Along a e.0 e.1) (edges (row_at rows a))
   along a h =
       All-weaker (Has (edges (row_at rows a))) _
-      (λ e k. (all-has (λ e. e.1 < length rows) (edges (row_at rows a)) e (closed a h) k, has-edge rows a e h k)) (edges (row_at rows a))
+      (λ e k. (all-has (λ e. e.1 < length rows) (edges (row_at rows a)) e (c.closed a h) k, has-edge rows a e h k)) (edges (row_at rows a))
       (all_has_itself (edges (row_at rows a)))
 
   asked : (a : ℕ) (l : Label) (x : ℕ) → Along a l x → asks (labelled l) (lead a) (lead x) < depth x
-  asked a l x e = (p.depths x (omega (arith, e.0))).every _ (inr (inr (edge_of a (l, x), e.1, refl, refl)))
+  asked a l x e = (c.plan_is.depths x (omega (arith, e.0))).every _ (inr (inr (edge_of a (l, x), e.1, refl, refl)))
 
   edge : (a : ℕ) → a < length rows → (l : Label) (x : ℕ) (up down : ℕ) → infinite (labelled l) ≡ 0 → plus (labelled l) ≡ up → minus (labelled l) ≡ down
       → lead x + down < lead a + up + depth x → Along a l x → Edge laid (position_at laid) a x up down
   edge a h l x up down finite u d deep e =
-      let rise = p.rise (edge_of a (l, x)) e.1 finite in
-      let fall = p.stages_fall (edge_of a (l, x)) e.1 in
-      let la = lead-most.every a h in
-      let lx = lead-most.every x e.0 in
+      let rise = c.plan_is.rise (edge_of a (l, x)) e.1 finite in
+      let fall = c.plan_is.stages_fall (edge_of a (l, x)) e.1 in
+      let la = c.greatest_lead.every a h in
+      let lx = c.greatest_lead.every x e.0 in
       record {
         row = e.0;
         stage = omega (arith, stage_at x e.0, stage_at a h, fall);
@@ -162,7 +153,7 @@ module _ (rows : List Row) (result : ℕ) (plan : Plan) (places : List Place) (o
         kept = omega (arith, delay-at x e.0, delay-at a h, depth-at x e.0, rise, la, lx, u, d, deep);
         before =
             λ same.
-            in_step (edge_of a (l, x)) e.1 finite (omega (arith, same, delay-at x e.0, delay-at a h, la, lx, u, d)) (position_at laid a) (position_at laid x)
+            c.in_step (edge_of a (l, x)) e.1 finite (omega (arith, same, delay-at x e.0, delay-at a h, la, lx, u, d)) (position_at laid a) (position_at laid x)
             (stood a h).0 (stood x e.0).0 (stood a h).1 (stood x e.0).1;
       }
 
@@ -170,14 +161,14 @@ module _ (rows : List Row) (result : ℕ) (plan : Plan) (places : List Place) (o
   side a h x e =
       record {
         row = e.0;
-        stage = omega (arith, stage_at x e.0, stage_at a h, p.stages_fall (edge_of a (beyond, x)) e.1);
-        kept = omega (arith, delay-at x e.0, depth-at x e.0, lead-most.every x e.0, asked a beyond x e);
+        stage = omega (arith, stage_at x e.0, stage_at a h, c.plan_is.stages_fall (edge_of a (beyond, x)) e.1);
+        kept = omega (arith, delay-at x e.0, depth-at x e.0, c.greatest_lead.every x e.0, asked a beyond x e);
       }
 
   pub planned : Planned laid
   planned =
       record {
-        places = places_long;
+        places = c.places_long;
         listed = stood;
         ordered = ordered;
         edges =
@@ -187,19 +178,19 @@ module _ (rows : List Row) (result : ℕ) (plan : Plan) (places : List Place) (o
             (λ x e. edge r h back x 0 1 refl refl refl (omega (arith, asked r back x e)) e) (row_at rows r) (along r h);
         sides = λ r h. each-side (Along r) (Side laid r) (side r h) (row_at rows r) (along r h);
         delayed = λ r h. omega (arith, delay-at r h);
-        staged = λ r h. omega (arith, stage_at r h, stage-most.every r h);
-        deep = λ r h. omega (arith, depth-at r h, (p.depths r (omega (arith, few))).every 0 (inl refl));
+        staged = λ r h. omega (arith, stage_at r h, c.greatest_stage.every r h);
+        deep = λ r h. omega (arith, depth-at r h, (c.plan_is.depths r (omega (arith, c.few))).every 0 (inl refl));
         apart =
             λ r q h k.
-            omega (arith, start-at r (omega arith), depth-at r (omega arith), start-at q k, sum_step (λ x. x) plan.depth r q 0 h (omega (arith, depths_long)));
-        inside = λ r h. omega (arith, start-at r h, depth-at r h, windows_are, sum_step (λ x. x) plan.depth r (length rows) 0 h depths_long);
+            omega (arith, start-at r (omega arith), depth-at r (omega arith), start-at q k, sum_step (λ x. x) t.plan.depth r q 0 h (omega (arith, c.depths_long)));
+        inside = λ r h. omega (arith, start-at r h, depth-at r h, c.windows_are, sum_step (λ x. x) t.plan.depth r (length rows) 0 h c.depths_long);
         outside =
             λ r h e. (
               omega (arith, settled_at r h),
               omega (
                 arith,
                 settled_at r h,
-                cells,
+                c.cells,
                 held-asa (row_at rows r) e,
                 sum_step held rows r (length rows) (Literal 0) h (omega arith),
                 ap asas (take_all (length rows) rows (omega arith)),
@@ -208,27 +199,23 @@ module _ (rows : List Row) (result : ℕ) (plan : Plan) (places : List Place) (o
         alone =
             λ r q h k e f.
             omega (arith, settled_at r (omega arith), settled_at q k, held-asa (row_at rows r) e, sum_step held rows r q (Literal 0) h (omega arith));
-        fits = omega (arith, cells);
-        result = result_within;
+        fits = omega (arith, c.cells);
+        result = c.result_within;
         shown =
             omega (
               arith,
-              delay-at result result_within,
-              depth-at result result_within,
-              lead-most.every result result_within,
-              (p.depths result (omega (arith, few))).every (lead result) (inr (inl (refl, refl))),
+              delay-at result c.result_within,
+              depth-at result c.result_within,
+              c.greatest_lead.every result c.result_within,
+              (c.plan_is.depths result (omega (arith, c.few))).every (lead result) (inr (inl (refl, refl))),
             );
-        short = let k = lead-most.some in omega (arith, k.2, p.leads_small k.0 (omega (arith, k.1, few)));
+        short = let k = c.greatest_lead.some in omega (arith, k.2, c.plan_is.leads_small k.0 (omega (arith, k.1, c.few)));
       }
 
 pub table-plans : TablePlans
-table-plans rows result t c =
-    subst Planned (sym same)
-    (planned rows result t.plan t.places t.order c.positions t.lag t.stages t.windows t.size c.closed c.result_within c.few c.plan_is
-    c.greatest_lead c.greatest_stage c.windows_are c.cells c.depths_long c.places_long c.order_long c.places_are c.inverse c.listed c.in_step)
+table-plans rows result t c = subst Planned (sym same) (planned rows result t c)
   where
-    same : layout t ≡ laid rows result t.plan t.places t.order c.positions t.lag t.stages t.windows t.size c.closed c.result_within c.few c.plan_is
-        c.greatest_lead c.greatest_stage c.windows_are c.cells c.depths_long c.places_long c.order_long c.places_are c.inverse c.listed c.in_step
+    same : layout t ≡ laid rows result t c
     same =
         λ i.
         record {

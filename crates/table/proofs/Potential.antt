@@ -2,20 +2,20 @@
 use Rattle.std.proofs.Common.{ℕ, ◌+◌, ◌*◌, ◌^◌, ◌<◌, ◌≤◌, List, length, get_or, sym, subst, arith}
 use mathlib.Core.Logic.{∥∥₁_elim}
 use native.Mathlib.Bridge.{le_prop}
-use Rattle.std.specs.List.{ContainsAt as Has, AllByRecursion}
+use Rattle.std.specs.List.{ContainsAt as Has, AllByRecursion, AllByRecursion-prop}
 use Rattle.std.proofs.ByRecursion.{all-has, All-weaker, all_has_itself}
 use Rattle.reading.specs.declared.rows.Row.{Row}
 use Rattle.theory.specs.Rule.{row_at}
 use Rattle.theory.specs.Potential.{Label, level, ahead, back, beyond, edges, Down, Potential}
 use Rattle.theory.proofs.Determined.{determines}
 use Rattle.table.specs.declared.schedule.Schedule.{Schedule}
-use Rattle.table.specs.Layout.{Planned}
+use Rattle.table.specs.Layout.{planned_prop, Planned}
 use Rattle.table.specs.Tables.{Checked, Sound, rows_of, layout}
 use Rattle.table.proofs.Loops.{table-plans}
-use Rattle.table.proofs.Props.{planned-prop, down-prop, all_prop}
+use Rattle.table.proofs.Props.{down-prop}
 use Rattle.graph.specs.Labels.{plus, minus, infinite}
 use Rattle.table.specs.Edges.{labelled, edge_of}
-use Rattle.table.specs.Laws.{DeterminedBy, DeterminedRows}
+use Rattle.table.specs.Laws.{DeterminedBy}
 use Rattle.table.proofs.Edges.{has-edge}
 
 down : (height stage : ℕ → ℕ) (a : ℕ) (l : Label) (x : ℕ) → stage x + infinite (labelled l) ≤ stage a
@@ -48,7 +48,7 @@ module _ (t : Schedule) where
 
   falls-prop : (r : ℕ) → IsProp (Falls r)
   falls-prop r =
-      all_prop (λ e. (e.1 < length (rows_of t)) × Down 65 height stage r e.0 e.1)
+      AllByRecursion-prop (λ e. (e.1 < length (rows_of t)) × Down 65 height stage r e.0 e.1)
       (λ e p q i. (le_prop p.0 q.0 i, down-prop 65 height stage r e.0 e.1 p.1 q.1 i)) (edges (row_at (rows_of t) r))
 
   pub potential : ∥ Sound t ∥₁ → Potential (rows_of t)
@@ -62,11 +62,8 @@ module _ (t : Schedule) where
         down = λ r h. ∥∥₁_elim s (falls-prop r) (λ c. falls c r h);
       }
 
-  pub sound-few : ∥ Sound t ∥₁ → t.count ≤ 64
-  sound-few s = ∥∥₁_elim s le_prop (λ c. omega (arith, c.count_is, c.few))
-
   pub sound-plans : ∥ Sound t ∥₁ → Planned (layout t)
-  sound-plans s = ∥∥₁_elim s (planned-prop (layout t)) (table-plans (rows_of t) t.result t)
+  sound-plans s = ∥∥₁_elim s (planned_prop (layout t)) (table-plans (rows_of t) t.result t)
 
   pub sound-determines : (V : Type 0) → ∥ Sound t ∥₁ → DeterminedBy V t
   sound-determines V s = determines V (rows_of t) (potential s)
@@ -74,6 +71,3 @@ module _ (t : Schedule) where
 pub sound : (rows : List Row) (result : ℕ) (t : Schedule) → Checked rows result t → Sound t
 sound rows result t c =
     subst (λ (r : List Row). Checked r t.result t) (sym c.rows_are) (subst (λ (n : ℕ). Checked rows n t) (sym c.result_is) c)
-
-pub checked-determines : (V : Type 0) (rows : List Row) (result : ℕ) (t : Schedule) → Checked rows result t → DeterminedRows V rows
-checked-determines V rows result t c = subst (DeterminedRows V) c.rows_are (sound-determines t V ∣ sound rows result t c ∣₁)

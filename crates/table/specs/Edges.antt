@@ -1,5 +1,5 @@
 -- The edges of a table of rows: from each row to each row that it reads.
-use Rattle.std.specs.Prelude.{ℕ, zero, suc, ◌<◌, List, [], ◌++◌, map, length, take}
+use Rattle.std.specs.Prelude.{ℕ, zero, suc, ◌<◌, List, [], ◌++◌, map, length}
 use Rattle.std.specs.List.{AllByRecursion}
 use Rattle.reading.specs.declared.rows.Row.{Row}
 use Rattle.theory.specs.Rule.{row_at}
@@ -8,7 +8,6 @@ use Rattle.theory.specs.Potential as theory
 use Rattle.graph.specs.declared.edges.Edge.{Edge}
 use Rattle.graph.specs.declared.edges.Label.{Label}
 use Rattle.graph.specs.declared.edges.Label.TheVariants.{Next, Same, Before, Unbounded}
-use Rattle.table.specs.declared.edge_list.EdgeList.{EdgeList}
 
 -- The label as the graph has it.
 abbrev pub labelled : theory.Label → Label
@@ -35,7 +34,3 @@ table_edges rows = first_edges rows (length rows)
 -- Every row that is read stands in the table.
 abbrev pub Closed : List Row → Type 0
 Closed rows = (r : ℕ) → r < length rows → AllByRecursion (λ e. e.1 < length rows) (edges (row_at rows r))
-
--- The edges that a list holds.
-abbrev pub listed : EdgeList → List Edge
-listed l = take l.count l.edges

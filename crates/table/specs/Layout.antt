@@ -1,5 +1,7 @@
 -- The numbers of a checked table, and what the loop needs of them.
 use Rattle.std.specs.Prelude.{◌≡◌, ℕ, ◌+◌, ◌<◌, ◌≤◌, Bool, true, false, List, length, slice_index, slice_index_or}
+use Rattle.std.specs.Coded.{le_prop}
+use native.Mathlib.Nat.{ℕ_set}
 use Rattle.reading.specs.declared.rows.Row.{Row}
 use Rattle.reading.specs.declared.rows.Row.TheVariants.{Literal, Truth, Channel, Same, First, Next, Fby, Asa, If, And, Or, Not, Negate, Compute, Relate}
 use Rattle.theory.specs.Rule.{row_at}
@@ -114,3 +116,47 @@ pub record Planned (l : Layout) : Type 0 where
   pub result : l.result < length l.rows
   pub shown : l.lag < (place_at l l.result).delay + (place_at l l.result).depth
   pub short : l.lag ≤ 64
+
+-- The facts of a plan have one proof each, so that a type can carry the plan.
+each_edge_prop : (P : ℕ → ℕ → ℕ → Type 0) → ((x up down : ℕ) → IsProp (P x up down)) → (row : Row) → IsProp (EachEdge P row)
+each_edge_prop P h (Literal n) = Prim.hlevel
+each_edge_prop P h (Truth b) = Prim.hlevel
+each_edge_prop P h (Channel c) = Prim.hlevel
+each_edge_prop P h (Same x) = Prim.hlevel
+each_edge_prop P h (First x) = Prim.hlevel
+each_edge_prop P h (Next x) = Prim.hlevel
+each_edge_prop P h (Fby x y) = Prim.hlevel
+each_edge_prop P h (Asa x y) = Prim.hlevel
+each_edge_prop P h (If c x y) = Prim.hlevel
+each_edge_prop P h (And x y) = Prim.hlevel
+each_edge_prop P h (Or x y) = Prim.hlevel
+each_edge_prop P h (Not x) = Prim.hlevel
+each_edge_prop P h (Negate x) = Prim.hlevel
+each_edge_prop P h (Compute o x y) = Prim.hlevel
+each_edge_prop P h (Relate o x y) = Prim.hlevel
+
+each_side_prop : (P : ℕ → Type 0) → ((x : ℕ) → IsProp (P x)) → (row : Row) → IsProp (EachSide P row)
+each_side_prop P h (Literal n) = Prim.hlevel
+each_side_prop P h (Truth b) = Prim.hlevel
+each_side_prop P h (Channel c) = Prim.hlevel
+each_side_prop P h (Same x) = Prim.hlevel
+each_side_prop P h (First x) = Prim.hlevel
+each_side_prop P h (Next x) = Prim.hlevel
+each_side_prop P h (Fby x y) = Prim.hlevel
+each_side_prop P h (Asa x y) = Prim.hlevel
+each_side_prop P h (If c x y) = Prim.hlevel
+each_side_prop P h (And x y) = Prim.hlevel
+each_side_prop P h (Or x y) = Prim.hlevel
+each_side_prop P h (Not x) = Prim.hlevel
+each_side_prop P h (Negate x) = Prim.hlevel
+each_side_prop P h (Compute o x y) = Prim.hlevel
+each_side_prop P h (Relate o x y) = Prim.hlevel
+
+edges_prop : (l : Layout) (a : ℕ) (row : Row) → IsProp (EachEdge (Edge l (position_at l) a) row)
+edges_prop l a = each_edge_prop (Edge l (position_at l) a) (Prim.hlevel le_prop)
+
+sides_prop : (l : Layout) (a : ℕ) (row : Row) → IsProp (EachSide (Side l a) row)
+sides_prop l a = each_side_prop (Side l a) (Prim.hlevel le_prop)
+
+pub planned_prop : (l : Layout) → IsProp (Planned l)
+planned_prop l = Prim.hlevel (le_prop, ℕ_set, edges_prop, sides_prop)

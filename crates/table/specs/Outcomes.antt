@@ -8,13 +8,8 @@ use Rattle.table.specs.declared.table.Table.{Table}
 use Rattle.table.specs.Edges.{table_edges}
 use Rattle.table.specs.Tables.{Checked}
 
--- What is to be answered of rows that read only each other: their table, or that some ring is not negative.
-abbrev pub Tabled : List Row → ℕ → Result Table Defect → Type 0
-Tabled rows result (Ok t) = Checked rows result t.schedule
-Tabled rows result (Err Ring) = SomeOtherRing (table_edges rows)
-Tabled rows result (Err Malformed) = ⊥
-
--- What is to be answered of any rows: the same, or that they are too many, that the result is none of them, or that one reads a row that is not there.
+-- What is to be answered of any rows: their table, or that some ring is not negative, or that they are too many, that the result is none of them,
+-- or that one reads a row that is not there.
 abbrev pub JudgedRows : List Row → ℕ → Result Table Defect → Type 0
 JudgedRows rows result (Ok t) = Checked rows result t.schedule
 JudgedRows rows result (Err Ring) = SomeOtherRing (table_edges rows)

@@ -1,18 +1,31 @@
 //! How many cells a table takes.
 
 ghost use Rattle.std.specs.Prelude.{◌≡◌, ℕ, ◌+◌, ◌≤◌, length, sum, slice_index};
+ghost use Rattle.table.specs.Layout.{is_asa};
+ghost use Rattle.table.specs.Tables.{asas};
 
-/// The number of cells: all depths, and one cell for each of the `held` rows, whose reading lasts for a whole run.
-pub(crate) fn count_cells(depth: &[u32], held: u32) -> u32
+use reading::Row;
+
+/// Whether the row takes a cell besides its window, for a reading that lasts for a whole run.
+pub(crate) fn is_asa(row: Row) -> bool
+    ensures { result ≡ is_asa row }
+{
+    matches!(row, Row::Asa(_, _))
+}
+
+/// The number of `asa` rows.
+pub(crate) fn count_asas(rows: &[Row]) -> usize
+    ensures { result ≡ asas rows.now }
+{
+    rows.iter().filter(|row| is_asa(**row)).count()
+}
+
+/// The number of cells that the windows take: all depths.
+pub(crate) fn count_window_cells(depth: &[u32]) -> u32
     requires low { (row : ℕ) → slice_index depth.now row ≤ 65 }
     requires few { length depth.now ≤ 64 }
-    requires held_few { held ≤ length depth.now }
-    ensures value { result ≡ sum depth.now + held }
-    ensures low { result ≤ 4224 }
+    ensures value { result ≡ sum depth.now }
+    ensures low { result ≤ 4160 }
 {
-    let mut cells = held;
-    for d in depth {
-        cells += *d;
-    }
-    cells
+    depth.iter().sum()
 }

@@ -1,6 +1,6 @@
 //! A checked table as a loop over it sees it.
 
-ghost use Rattle.table.specs.Layout.{Planned};
+ghost use Rattle.table.specs.Layout.{Planned, planned_prop};
 
 use crate::place::Place;
 use reading::Row;
@@ -20,5 +20,5 @@ pub struct View<'a> {
     /// How many cells the windows take, and how many there are with those of the `asa` rows.
     pub windows: usize,
     pub size: usize,
-    ghost planned: { ∥ Planned (record { rows = rows.now; places = places.now; order = order.now; lag = lag; stages = stages; result = result; windows = windows; size = size }) ∥₁ },
+    ghost planned: { Planned (record { rows = rows.now; places = places.now; order = order.now; lag = lag; stages = stages; result = result; windows = windows; size = size }) } by { planned_prop _ },
 }

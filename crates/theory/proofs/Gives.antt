@@ -1,8 +1,7 @@
 -- Values by the rules, and the values of a sheet.
-use Rattle.std.proofs.Common.{◌≡◌, ℕ, zero, suc, ◌+◌, ◌<◌, Bool, true, false, not, Some, None, Option, sym, refl, ap, ◌∙◌, inl, inr, arith}
-use Rattle.reading.specs.Faults.{of_kind, of_source}
+use Rattle.std.proofs.Common.{◌≡◌, ℕ, zero, suc, ◌+◌, ◌<◌, Bool, true, false, not, Some, None, Option, sym, refl, ap, ◌∙◌, inl, inr, arith, Ok}
+use Rattle.reading.specs.Faults.{Reading, of_kind, of_source}
 use Rattle.reading.specs.declared.faults.FaultNumber.TheVariants.{WrongKind}
-use Rattle.reading.specs.declared.faults.Reading.{Reading}
 use Rattle.reading.specs.declared.rows.Row.{Row}
 use Rattle.reading.specs.declared.rows.Row.TheVariants.{Literal, Truth, Channel, Same, First, Next, Fby, Asa, If, And, Or, Not, Negate, Compute, Relate}
 use Rattle.kind.specs.Kinds.{Meaning}
@@ -53,25 +52,25 @@ gives-map k source S T P Q f g row t v h =
 module _ {V : Type 0} (k : Meaning V) (source : Says V) (H : ℕ) (σ : Sheet V) where
   -- the values that the sheet has
   abbrev Has : Values V
-  Has x s w = σ x s ≡ Reading.Value w
+  Has x s w = σ x s ≡ Ok w
 
   connects-map : (b : Bool) (X Y X' Y' : V → Type 0) (v : V) → ((w : V) → X w → X' w) → ((w : V) → Y w → Y' w) → Connects k b X Y v → Connects k b X' Y' v
   connects-map b X Y X' Y' v f g (inl p) = inl (p.0, elim p.1 [ inl q ↦ inl (f _ q) | inr q ↦ inr (g _ q) ])
   connects-map b X Y X' Y' v f g (inr p) = inr (p.0, f _ p.1, g _ p.2)
 
-  not-rule : (b : Bool) (z : Reading V) (r t : ℕ) (v : V) → z ≡ Reading.Value (k.truth b) → v ≡ k.truth (not b) →
-      after z (λ v. by_truth (k.told v) (Reading.Value (k.truth false)) (Reading.Value (k.truth true)) (born WrongKind r t)) ≡ Reading.Value v
-  not-rule true z r t v e h = rw (e, k.told_truth true) (ap Reading.Value (sym h))
-  not-rule false z r t v e h = rw (e, k.told_truth false) (ap Reading.Value (sym h))
+  not-rule : (b : Bool) (z : Reading V) (r t : ℕ) (v : V) → z ≡ Ok (k.truth b) → v ≡ k.truth (not b) →
+      after z (λ v. by_truth (k.told v) (Ok (k.truth false)) (Ok (k.truth true)) (born WrongKind r t)) ≡ Ok v
+  not-rule true z r t v e h = rw (e, k.told_truth true) (ap Ok (sym h))
+  not-rule false z r t v e h = rw (e, k.told_truth false) (ap Ok (sym h))
 
-  truth-told : (z : Reading V) (w : V) (b : Bool) → z ≡ Reading.Value w → k.told w ≡ Some b → z ≡ Reading.Value (k.truth b)
-  truth-told z w b e h = e ∙ ap Reading.Value (k.told_only w b h)
+  truth-told : (z : Reading V) (w : V) (b : Bool) → z ≡ Ok w → k.told w ≡ Some b → z ≡ Ok (k.truth b)
+  truth-told z w b e h = e ∙ ap Ok (k.told_only w b h)
 
   not-false : (b : Bool) → not b ≡ false → b ≡ true
   not-false true e = refl
   not-false false e = cc
 
-  settled-gives : (x y r : ℕ) (v : V) (o : Option ℕ) → Found (λ s. not (is k false (σ y s))) H o → settled k r (σ x) (σ y) o ≡ Reading.Value v →
+  settled-gives : (x y r : ℕ) (v : V) (o : Option ℕ) → Found (λ s. not (is k false (σ y s))) H o → settled k r (σ x) (σ y) o ≡ Ok v →
       (s : ℕ) × (s < H) × Has x s v × Has y s (k.truth true) × ((u : ℕ) → u < s → Has y u (k.truth false))
   settled-gives x y r v None f e = let z : ◌≡◌ {A = ℕ} 0 1 = cc in absurd (omega arith)
   settled-gives x y r v (Some s) f e =
@@ -81,7 +80,7 @@ module _ {V : Type 0} (k : Meaning V) (source : Says V) (H : ℕ) (σ : Sheet V)
 
   -- a row's value comes from values of the sheet, at places that the row reads
   pub rule-gives : (Q : Values V) (row : Row) (r t : ℕ) (v : V) → EachRead H (λ x s. (w : V) → Has x s w → Q x s w) row t →
-      rule k source H σ row r t ≡ Reading.Value v → Gives k source (λ s. s < H) Q row t v
+      rule k source H σ row r t ≡ Ok v → Gives k source (λ s. s < H) Q row t v
   rule-gives Q (Literal n) r t v q e = cc
   rule-gives Q (Truth b) r t v q e = cc
   rule-gives Q (Channel c) r t v q e = answered-value of_source (source c t) r t v e
@@ -120,9 +119,9 @@ module _ {V : Type 0} (k : Meaning V) (source : Says V) (H : ℕ) (σ : Sheet V)
       (a.0, b.0, q.0 _ a.1, q.1 _ b.1, answered-value of_kind (k.related o a.0 b.0) r t v b.2)
 
   -- what a row has by the values of the sheet, it reads from the sheet
-  pub gives-rule : (row : Row) (r t : ℕ) (v : V) → Gives k source (λ s. s < H) Has row t v → rule k source H σ row r t ≡ Reading.Value v
-  gives-rule (Literal n) r t v g = ap Reading.Value (sym g)
-  gives-rule (Truth b) r t v g = ap Reading.Value (sym g)
+  pub gives-rule : (row : Row) (r t : ℕ) (v : V) → Gives k source (λ s. s < H) Has row t v → rule k source H σ row r t ≡ Ok v
+  gives-rule (Literal n) r t v g = ap Ok (sym g)
+  gives-rule (Truth b) r t v g = ap Ok (sym g)
   gives-rule (Channel c) r t v g = rw g
   gives-rule (Same x) r t v g = g
   gives-rule (First x) r t v g = g

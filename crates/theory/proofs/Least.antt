@@ -1,7 +1,6 @@
 -- The least solution and the sheets have the same values.
-use Rattle.std.proofs.Common.{◌≡◌, ℕ, zero, suc, ◌<◌, ◌≤◌, List, length, sym, ◌∙◌, arith}
+use Rattle.std.proofs.Common.{◌≡◌, ℕ, zero, suc, ◌<◌, ◌≤◌, List, length, sym, ◌∙◌, arith, Ok}
 use native.Mathlib.Decide.{le_ind}
-use Rattle.reading.specs.declared.faults.Reading.{Reading}
 use Rattle.reading.specs.declared.rows.Row.{Row}
 use Rattle.kind.specs.Kinds.{Meaning}
 use Rattle.theory.specs.Says.{Says}
@@ -18,10 +17,10 @@ module _ {V : Type 0} (table : List Row) (k : Meaning V) (source : Says V) where
   -- what follows row by row from itself holds of all values of a sheet
   values-in : (H : ℕ) (ranked : Ranked table H) (σ : Sheet V) → Fits table k source H σ → (Q : Values V) →
       ((r : ℕ) → r < length table → (t : ℕ) (v : V) → Gives k source (λ s. s < H) Q (row_at table r) t v → Q r t v) →
-      (r : ℕ) → r < length table → (t : ℕ) (v : V) → σ r t ≡ Reading.Value v → Q r t v
+      (r : ℕ) → r < length table → (t : ℕ) (v : V) → σ r t ≡ Ok v → Q r t v
   values-in H ranked σ fits Q closed r h t v e = below (suc (ranked.rank r t)) r h t (omega arith) v e
     where
-      below : (n r : ℕ) → r < length table → (t : ℕ) → ranked.rank r t < n → (v : V) → σ r t ≡ Reading.Value v → Q r t v
+      below : (n r : ℕ) → r < length table → (t : ℕ) → ranked.rank r t < n → (v : V) → σ r t ≡ Ok v → Q r t v
       below zero r h t l v e = absurd (omega arith)
       below (suc n) r h t l v e =
           closed r h t v
@@ -37,7 +36,7 @@ module _ {V : Type 0} (table : List Row) (k : Meaning V) (source : Says V) where
   least-rounds r t v g = (g.0, le_ind (λ n. Round table k source n r t v) g.1 (λ n h. round_up n r t v))
 
   sheet-least : (H : ℕ) (ranked : Ranked table H) (σ : Sheet V) → Fits table k source H σ →
-      (r : ℕ) → r < length table → (t : ℕ) (v : V) → σ r t ≡ Reading.Value v → Least table k source r t v
+      (r : ℕ) → r < length table → (t : ℕ) (v : V) → σ r t ≡ Ok v → Least table k source r t v
   sheet-least H ranked σ fits =
       values-in H ranked σ fits (Least table k source)
       (λ r h t v g.
@@ -45,18 +44,18 @@ module _ {V : Type 0} (table : List Row) (k : Meaning V) (source : Says V) where
       (suc e.0, (h, e.1 e.0 (omega arith))))
 
   longer : (H H' : ℕ) (ranked : Ranked table H) → H ≤ H' → (σ σ' : Sheet V) → Fits table k source H σ → Fits table k source H' σ' →
-      (r : ℕ) → r < length table → (t : ℕ) (v : V) → σ r t ≡ Reading.Value v → σ' r t ≡ Reading.Value v
+      (r : ℕ) → r < length table → (t : ℕ) (v : V) → σ r t ≡ Ok v → σ' r t ≡ Ok v
   longer H H' ranked le σ σ' fits fits' =
-      values-in H ranked σ fits (λ x s w. σ' x s ≡ Reading.Value w)
+      values-in H ranked σ fits (λ x s w. σ' x s ≡ Ok w)
       (λ r h t v g. fits' r h t ∙ gives-rule k source H' σ' (row_at table r) r t v
       (gives-map k source (λ s. s < H) (λ s. s < H') _ _ (λ s l. omega arith) (λ x s w p. p) (row_at table r) t v g))
 
   round-sheets : (all : (H : ℕ) → Ranked table H) (n r t : ℕ) (v : V) → Round table k source n r t v →
-      Eventually (λ H. sheet table k source H (all H) r t ≡ Reading.Value v)
+      Eventually (λ H. sheet table k source H (all H) r t ≡ Ok v)
   round-sheets all zero r t v g = absurd g
   round-sheets all (suc n) r t v g =
       then (λ H q. sheet-fits table k source H (all H) r g.0 t ∙ gives-rule k source H (sheet table k source H (all H)) (row_at table r) r t v q)
-      (gives-eventually k source AnyTick (λ H s. s < H) (Round table k source n) (λ H x s w. sheet table k source H (all H) x s ≡ Reading.Value w)
+      (gives-eventually k source AnyTick (λ H s. s < H) (Round table k source n) (λ H x s w. sheet table k source H (all H) x s ≡ Ok w)
       (λ s a. (suc s, λ m l. l)) (round-sheets all n) (row_at table r) t v g.1)
 
 pub least-solution : (V : Type 0) → LeastSolution V

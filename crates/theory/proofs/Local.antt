@@ -1,8 +1,7 @@
 -- A row reads nothing but the places of `EachRead`.
-use Rattle.std.proofs.Common.{◌≡◌, ℕ, zero, suc, ◌<◌, Bool, true, false, cond, not, Some, None, Option, refl, ap, ◌∙◌, arith}
+use Rattle.std.proofs.Common.{◌≡◌, ℕ, zero, suc, ◌<◌, Bool, true, false, cond, not, Some, None, Option, refl, ap, ◌∙◌, arith, Ok}
 use Rattle.reading.specs.Faults.{of_kind}
 use Rattle.reading.specs.declared.faults.FaultNumber.TheVariants.{WrongKind}
-use Rattle.reading.specs.declared.faults.Reading.{Reading}
 use Rattle.reading.specs.declared.rows.Row.{Row}
 use Rattle.reading.specs.declared.rows.Row.TheVariants.{Literal, Truth, Channel, Same, First, Next, Fby, Asa, If, And, Or, Not, Negate, Compute, Relate}
 use Rattle.kind.specs.Kinds.{Meaning}
@@ -59,7 +58,7 @@ module _ {V : Type 0} (k : Meaning V) (source : Says V) (H : ℕ) (σ τ : Sheet
   rule-local (If c x y) r t e = λ i. after (e.0 i) (λ v. by_truth (k.told v) (e.1 i) (e.2 i) (born WrongKind r t))
   rule-local (And x y) r t e = λ i. connected k false r t (e.0 i) (e.1 i)
   rule-local (Or x y) r t e = λ i. connected k true r t (e.0 i) (e.1 i)
-  rule-local (Not x) r t e = ap (λ z. after z (λ v. by_truth (k.told v) (Reading.Value (k.truth false)) (Reading.Value (k.truth true)) (born WrongKind r t))) e
+  rule-local (Not x) r t e = ap (λ z. after z (λ v. by_truth (k.told v) (Ok (k.truth false)) (Ok (k.truth true)) (born WrongKind r t))) e
   rule-local (Negate x) r t e = ap (λ z. after z (λ v. answered of_kind (k.negated v) r t)) e
   rule-local (Compute o x y) r t e = λ i. after (e.0 i) (λ v. after (e.1 i) (λ w. answered of_kind (k.computed o v w) r t))
   rule-local (Relate o x y) r t e = λ i. after (e.0 i) (λ v. after (e.1 i) (λ w. answered of_kind (k.related o v w) r t))

@@ -1,6 +1,5 @@
 -- A ranked table has exactly one sheet.
-use Rattle.std.proofs.Common.{◌≡◌, ℕ, zero, suc, ◌<◌, false, List, length, sym, ◌∙◌, arith}
-use Rattle.reading.specs.declared.faults.Reading.{Reading}
+use Rattle.std.proofs.Common.{◌≡◌, ℕ, zero, suc, ◌<◌, false, List, length, sym, ◌∙◌, arith, Ok}
 use Rattle.reading.specs.declared.rows.Row.{Row}
 use Rattle.kind.specs.Kinds.{Meaning}
 use Rattle.theory.specs.Says.{Says}
@@ -12,7 +11,7 @@ use Rattle.theory.proofs.Local.{each_map, rule-local}
 module _ {V : Type 0} (table : List Row) (k : Meaning V) (source : Says V) (H : ℕ) (ranked : Ranked table H) where
   -- the rules, applied n times to a sheet of one value
   abbrev pub unrolled : ℕ → Sheet V
-  unrolled zero r t = Reading.Value (k.truth false)
+  unrolled zero r t = Ok (k.truth false)
   unrolled (suc n) r t = rule k source H (unrolled n) (row_at table r) r t
 
   -- the rules read the same at a place from sheets that agree at all places of lesser rank

@@ -1,6 +1,5 @@
 -- The theorems about sheets and the least solution.
-use Rattle.std.specs.Prelude.{◌≡◌, ℕ, ◌<◌, ◌≤◌, ◌↔◌, List, length}
-use Rattle.reading.specs.declared.faults.Reading.{Reading}
+use Rattle.std.specs.Prelude.{◌≡◌, ℕ, ◌<◌, ◌≤◌, ◌↔◌, List, length, Ok}
 use Rattle.reading.specs.declared.rows.Row.{Row}
 use Rattle.kind.specs.Kinds.{Meaning}
 use Rattle.theory.specs.Says.{Says}
@@ -22,13 +21,13 @@ module _ {V : Type 0} (table : List Row) (k : Meaning V) (source : Says V) where
   abbrev pub Exact : Type 0
   Exact =
       (r : ℕ) → r < length table → (t : ℕ) (v : V) →
-      Least table k source r t v ↔ ((H : ℕ) × (σ : Sheet V) × Fits table k source H σ × (σ r t ≡ Reading.Value v))
+      Least table k source r t v ↔ ((H : ℕ) × (σ : Sheet V) × Fits table k source H σ × (σ r t ≡ Ok v))
 
   -- What value a horizon's sheet has, the sheet of every longer horizon has too.
   abbrev pub Lasting : Type 0
   Lasting =
       (H H' : ℕ) → H ≤ H' → (σ σ' : Sheet V) → Fits table k source H σ → Fits table k source H' σ' →
-      (r : ℕ) → r < length table → (t : ℕ) (v : V) → σ r t ≡ Reading.Value v → σ' r t ≡ Reading.Value v
+      (r : ℕ) → r < length table → (t : ℕ) (v : V) → σ r t ≡ Ok v → σ' r t ≡ Ok v
 
 abbrev pub OneSheet : Type 0 → Type 0
 OneSheet V =

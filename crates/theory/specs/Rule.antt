@@ -1,10 +1,9 @@
 -- What a row reads at a tick, given what every row reads at every tick.
 use Rattle.std.specs.Prelude.{◌≡◌, ℕ, zero, suc, ◌+◌, ◌<◌, Bool, true, false, cond, not, ◌&&◌, ◌||◌, List, length, Some, None, Ok, Err, Option, Result, slice_index_or}
 use Rattle.std.specs.Bool.{beq}
-use Rattle.reading.specs.Faults.{of_kind, of_source}
+use Rattle.reading.specs.Faults.{Reading, of_kind, of_source}
 use Rattle.reading.specs.declared.faults.FaultNumber.{FaultNumber}
 use Rattle.reading.specs.declared.faults.FaultNumber.TheVariants.{Unreached, WrongKind}
-use Rattle.reading.specs.declared.faults.Reading.{Reading}
 use Rattle.reading.specs.declared.rows.Row.{Row}
 use Rattle.reading.specs.declared.rows.Row.TheVariants.{Literal, Truth, Channel, Same, First, Next, Fby, Asa, If, And, Or, Not, Negate, Compute, Relate}
 use Rattle.kind.specs.Kinds.{Meaning}
@@ -20,17 +19,17 @@ row_at table r = slice_index_or table r (Literal 0)
 
 -- A fault born in row r at tick t.
 abbrev pub born : {V : Type 0} → FaultNumber → ℕ → ℕ → Reading V
-born n r t = Reading.Fault (record { number = n; row = r; tick = t })
+born n r t = Err (record { number = n; row = r; tick = t })
 
 -- An answer given in row r at tick t; `number` gives the number of its fault.
 abbrev pub answered : {V F : Type 0} → (F → FaultNumber) → Result V F → ℕ → ℕ → Reading V
-answered number (Ok v) r t = Reading.Value v
+answered number (Ok v) r t = Ok v
 answered number (Err f) r t = born (number f) r t
 
 -- A fault is passed on whole, and a value goes on.
 abbrev pub after : {V : Type 0} → Reading V → (V → Reading V) → Reading V
-after (Reading.Value v) go = go v
-after (Reading.Fault f) go = Reading.Fault f
+after (Ok v) go = go v
+after (Err f) go = Err f
 
 -- One of three, by what a value was told as: true, false, or neither.
 abbrev pub by_truth : {A : Type 0} → Option Bool → A → A → A → A
@@ -44,8 +43,8 @@ told_as b None = false
 
 -- Whether a reading is the truth value b.
 abbrev pub is : {V : Type 0} → Meaning V → Bool → Reading V → Bool
-is k b (Reading.Value v) = told_as b (k.told v)
-is k b (Reading.Fault f) = false
+is k b (Ok v) = told_as b (k.told v)
+is k b (Err f) = false
 
 -- The least number below n that passes a test.
 abbrev pub or_at : (ℕ → Bool) → ℕ → Option ℕ → Option ℕ
@@ -64,8 +63,8 @@ settled k r x y (Some s) = after (y s) (λ v. cond (told_as true (k.told v)) (x 
 -- `and` with false for b, `or` with true: b when either side is b; else a fault, left before right; else the other truth value, if both sides are it.
 abbrev pub connected : {V : Type 0} → Meaning V → Bool → ℕ → ℕ → Reading V → Reading V → Reading V
 connected k b r t x y =
-    cond (is k b x || is k b y) (Reading.Value (k.truth b))
-    (after x (λ v. after y (λ w. cond (is k (not b) x && is k (not b) y) (Reading.Value (k.truth (not b))) (born WrongKind r t))))
+    cond (is k b x || is k b y) (Ok (k.truth b))
+    (after x (λ v. after y (λ w. cond (is k (not b) x && is k (not b) y) (Ok (k.truth (not b))) (born WrongKind r t))))
 
 -- `x fby y` at tick t.
 abbrev pub followed : {A : Type 0} → (ℕ → A) → (ℕ → A) → ℕ → A
@@ -74,8 +73,8 @@ followed x y (suc t) = y t
 
 -- What row r, which is the given one, reads at tick t under the horizon H.
 abbrev pub rule : {V : Type 0} → Meaning V → Says V → ℕ → Sheet V → Row → ℕ → ℕ → Reading V
-rule k source H σ (Literal n) r t = Reading.Value (k.literal n)
-rule k source H σ (Truth b) r t = Reading.Value (k.truth b)
+rule k source H σ (Literal n) r t = Ok (k.literal n)
+rule k source H σ (Truth b) r t = Ok (k.truth b)
 rule k source H σ (Channel c) r t = answered of_source (source c t) r t
 rule k source H σ (Same x) r t = σ x t
 rule k source H σ (First x) r t = σ x 0
@@ -86,7 +85,7 @@ rule k source H σ (If c x y) r t = after (σ c t) (λ v. by_truth (k.told v) (�
 rule k source H σ (And x y) r t = connected k false r t (σ x t) (σ y t)
 rule k source H σ (Or x y) r t = connected k true r t (σ x t) (σ y t)
 rule k source H σ (Not x) r t =
-    after (σ x t) (λ v. by_truth (k.told v) (Reading.Value (k.truth false)) (Reading.Value (k.truth true)) (born WrongKind r t))
+    after (σ x t) (λ v. by_truth (k.told v) (Ok (k.truth false)) (Ok (k.truth true)) (born WrongKind r t))
 rule k source H σ (Negate x) r t = after (σ x t) (λ v. answered of_kind (k.negated v) r t)
 rule k source H σ (Compute o x y) r t = after (σ x t) (λ v. after (σ y t) (λ w. answered of_kind (k.computed o v w) r t))
 rule k source H σ (Relate o x y) r t = after (σ x t) (λ v. after (σ y t) (λ w. answered of_kind (k.related o v w) r t))

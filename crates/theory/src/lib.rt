@@ -7,50 +7,36 @@ ghost use Rattle.theory.specs.Laws.{OneSheet, LeastSolution};
 ghost use Rattle.theory.specs.Potential.{PotentialRanks, LeadsBound, KeyOrders, EdgesCover};
 
 /// Each horizon has exactly one sheet, where a rank falls along every read.
-pub fn one_sheet<V>() -> u8
+pub fn one_sheet<V>()
     ensures { OneSheet V }
-{
-    0
-}
+{}
 
 /// The least solution is what the sheets of all horizons have in values.
-pub fn least_solution<V>() -> u8
+pub fn least_solution<V>()
     ensures { LeastSolution V }
-{
-    0
-}
+{}
 
 /// A row reads only along its edges.
-pub fn edges_cover() -> u8
+pub fn edges_cover()
     ensures { EdgesCover }
-{
-    0
-}
+{}
 
 /// Heights and stages rank a table at every horizon.
-pub fn ranks() -> u8
+pub fn ranks()
     ensures { PotentialRanks }
-{
-    0
-}
+{}
 
 /// From a tick below the horizon, no read passes the horizon by more than the lead of the row that is read.
-pub fn leads_bound() -> u8
+pub fn leads_bound()
     ensures { LeadsBound }
-{
-    0
-}
+{}
 
 /// A loop can make the rows in the order of height and lead.
-pub fn key_orders() -> u8
+pub fn key_orders()
     ensures { KeyOrders }
-{
-    0
-}
+{}
 
 /// Each horizon has exactly one sheet, and the least solution has exactly the values of the sheets.
-pub fn determines<V>() -> u8
+pub fn determines<V>()
     ensures { Determines V }
-{
-    0
-}
+{}

@@ -1,14 +1,14 @@
 -- The reading that a row's operands decide is that of every sheet that fits.
 use Rattle.std.proofs.Common.{◌≡◌, ℕ, zero, suc, ◌-◌, ◌<◌, List, length, sym, refl, ap, ◌∙◌, inl, inr, arith}
 use Rattle.std.proofs.lemmas.Bool.{cases_lt}
-use Rattle.reading.specs.declared.faults.Reading.{Reading}
+use Rattle.reading.specs.Faults.{Reading}
 use Rattle.reading.specs.declared.rows.Row.{Row}
 use Rattle.reading.specs.declared.rows.Row.TheVariants.{Literal, Truth, Channel, Same, First, Next, Fby, Asa, If, And, Or, Not, Negate, Compute, Relate}
 use Rattle.kind.specs.Kinds.{Meaning}
 use Rattle.theory.specs.Says.{Says}
 use Rattle.theory.specs.Rule.{Sheet, Fits, rule, row_at, followed}
-use Rattle.table.specs.Layout.{Layout, Planned, Edge, EachEdge, position_at}
-use Rattle.turns.specs.Reads.{decided, Left, Right, Third, Ready, EachRow, Within}
+use Rattle.table.specs.Layout.{Layout}
+use Rattle.turns.specs.Reads.{decided, Left, Right, Third, Ready}
 
 -- A cell holds one thing.
 pub one_at : {A : Type 0} {cell : A → A} {x y : A} → ((d : A) → cell d ≡ x) → ((d : A) → cell d ≡ y) → x ≡ y
@@ -24,26 +24,6 @@ followed-later x y (suc t) h = ap y (let e : t ≡ suc t - 1 = omega arith in e)
 
 congruent : {A B : Type 0} (f : A → A → A → B) {a b c x y z : A} → a ≡ x → b ≡ y → c ≡ z → f a b c ≡ f x y z
 congruent f p q r = cc
-
-pub each_row : (P : ℕ → ℕ → ℕ → Type 0) (Q : ℕ → Type 0) → ((x u d : ℕ) → P x u d → Q x) → (row : Row) → EachEdge P row → EachRow Q row
-each_row P Q f (Literal n) e = tt
-each_row P Q f (Truth b) e = tt
-each_row P Q f (Channel c) e = tt
-each_row P Q f (Same x) e = f _ _ _ e
-each_row P Q f (First x) e = f _ _ _ e
-each_row P Q f (Next x) e = f _ _ _ e
-each_row P Q f (Fby x y) e = (f _ _ _ e.0, f _ _ _ e.1)
-each_row P Q f (Asa x y) e = tt
-each_row P Q f (If c x y) e = (f _ _ _ e.0, f _ _ _ e.1, f _ _ _ e.2)
-each_row P Q f (And x y) e = (f _ _ _ e.0, f _ _ _ e.1)
-each_row P Q f (Or x y) e = (f _ _ _ e.0, f _ _ _ e.1)
-each_row P Q f (Not x) e = f _ _ _ e
-each_row P Q f (Negate x) e = f _ _ _ e
-each_row P Q f (Compute o x y) e = (f _ _ _ e.0, f _ _ _ e.1)
-each_row P Q f (Relate o x y) e = (f _ _ _ e.0, f _ _ _ e.1)
-
-pub within : (l : Layout) → Planned l → (r : ℕ) → r < length l.rows → Within l.rows (row_at l.rows r)
-within l p r is = each_row (Edge l (position_at l) r) (λ x. x < length l.rows) (λ x u d e. e.row) (row_at l.rows r) (p.edges r is)
 
 module _ {V : Type 0} (l : Layout) (k : Meaning V) (says : Says V) (H : ℕ) (σ : Sheet V) (fits : Fits l.rows k says H σ)
     (cells : List (Reading V)) (r t : ℕ) (is : r < length l.rows) (a b c : Reading V) where

@@ -1,7 +1,7 @@
 -- The invariant within a turn.
 use Rattle.std.proofs.Common.{◌≡◌, ℕ, ◌+◌, ◌-◌, ◌%◌, ◌<◌, ◌≤◌, ◌≢◌, List, length, get_or, set, sym, refl, ap, ◌∙◌, subst, inl, inr, eq-or-lt_of_le, arith, get_or-set_other, get_or-set_same}
 use Rattle.std.proofs.lemmas.Bool.{cases_lt, cases_eq}
-use Rattle.reading.specs.declared.faults.Reading.{Reading}
+use Rattle.reading.specs.Faults.{Reading}
 use Rattle.reading.specs.declared.rows.Row.{Row}
 use Rattle.reading.specs.declared.rows.Row.TheVariants.{Literal, Truth, Channel, Same, First, Next, Fby, Asa, If, And, Or, Not, Negate, Compute, Relate}
 use Rattle.theory.specs.Rule.{Sheet, row_at}
@@ -82,6 +82,12 @@ module _ {V : Type 0} (l : Layout) (p : Planned l) (cells : List (Reading V)) (�
         settled = λ q iq q-asa lq u d. get_or-set_other cells _ _ _ d
             (λ e. let i = slot-inside l p r is t in let o = p.outside q iq q-asa in omega arith) ∙ m.settled q iq q-asa lq u d;
       }
+
+      -- The reading that the row then makes is the sheet's, so its write makes the row.
+      pub makes : (v : Reading V) (new : List (Reading V)) → (Ready l cells σ (row_at l.rows r) r t → v ≡ σ r t) → new ≡ set cells (slot (place_at l r) t) v →
+          Midst l (position_at l) new σ s j (k + 1)
+      makes v new reads written =
+          subst (λ x. Midst l (position_at l) x σ s j (k + 1)) (sym (written ∙ ap (set cells (slot (place_at l r) t)) (reads ready))) made_one
 
   -- A row of a later stage, or whose first turn is yet to come, is passed over.
   pub passed-one : (r : ℕ) → r < length l.rows → position_at l r ≡ k → ((place_at l r).stage ≤ s → j < (place_at l r).delay) →

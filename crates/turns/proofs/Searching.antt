@@ -2,7 +2,7 @@
 use Rattle.std.proofs.Common.{◌≡◌, ℕ, ◌+◌, ◌-◌, ◌<◌, ◌≤◌, Bool, true, false, ◌≢◌, ◌⊎◌, List, length, get_or, set, Some, None, sym, ap, ◌∙◌, subst, inl, inr, eq-or-lt_of_le, arith, get_or-set_other, get_or-set_same}
 use Rattle.std.proofs.lemmas.Bool.{cases_lt, cases_eq, cases_Bool, both_ways, and_parts, and_from, eqb-true, eq-eqb}
 use Rattle.reading.specs.declared.faults.FaultNumber.TheVariants.{Unreached}
-use Rattle.reading.specs.declared.faults.Reading.{Reading}
+use Rattle.reading.specs.Faults.{Reading}
 use Rattle.reading.specs.declared.rows.Row.TheVariants.{Asa}
 use Rattle.kind.specs.Kinds.{Meaning}
 use Rattle.theory.specs.Says.{Says}
@@ -207,14 +207,13 @@ module _ (l : Layout) (p : Planned l) where
         h.windows y sides.1.row (omega arith) t (omega arith) (omega arith),
       )
 
-  -- A turn from the lag on, and the search at the tick that is then due.
-  pub sought-turn : {V : Type 0} (k : Meaning V) (says : Says V) (H : ℕ) (σ : Sheet V) → Fits l.rows k says H σ → (cells mid new : List (Reading V)) (pending pending' : List Bool) (stage j : ℕ) →
-      l.lag ≤ j → j < H + l.lag → Holds l mid σ (stage - 1) (j + 1) → Kept l cells mid → Seeking l k cells σ pending stage 0 (j - l.lag) →
-      SoughtAll l k stage (j - l.lag) mid pending new pending' → Holds l new σ (stage - 1) (j + 1) × Seeking l k new σ pending' stage 0 (j + 1 - l.lag)
-  sought-turn k says H σ fits cells mid new pending pending' stage j late lt held kept h sought =
-      let e : j - l.lag + l.lag + 1 ≡ j + 1 = omega arith in
-      let f : j - l.lag + 1 ≡ j + 1 - l.lag = omega arith in
-      let g = sought says H σ fits (omega arith) (subst (λ n. Holds l mid σ (stage - 1) n) (sym e) held) (seeking-kept k cells mid σ pending stage (j - l.lag) kept h) in (
+  -- A turn, and the search at the tick that is then due.
+  pub sought-turn : {V : Type 0} (k : Meaning V) (says : Says V) (H : ℕ) (σ : Sheet V) → Fits l.rows k says H σ → (cells mid new : List (Reading V)) (pending pending' : List Bool) (stage t : ℕ) →
+      t < H → Holds l mid σ (stage - 1) (t + l.lag + 1) → Kept l cells mid → Seeking l k cells σ pending stage 0 t →
+      SoughtAll l k stage t mid pending new pending' → Holds l new σ (stage - 1) (t + 1 + l.lag) × Seeking l k new σ pending' stage 0 (t + 1)
+  sought-turn k says H σ fits cells mid new pending pending' stage t lt held kept h sought =
+      let e : t + l.lag + 1 ≡ t + 1 + l.lag = omega arith in
+      let g = sought says H σ fits lt held (seeking-kept k cells mid σ pending stage t kept h) in (
         subst (λ n. Holds l new σ (stage - 1) n) e g.0,
-        subst (λ n. Seeking l k new σ pending' stage 0 n) f g.1,
+        g.1,
       )

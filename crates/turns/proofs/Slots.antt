@@ -12,8 +12,8 @@ module _ (l : Layout) (p : Planned l) (r : ℕ) (is : r < length l.rows) (t : �
   pub slot-inside : slot (place_at l r) t < l.windows
   slot-inside = let m = mod-lt t (p.deep r is) in let i = p.inside r is in omega arith
 
-  pub slot-fits : slot (place_at l r) t < l.size
-  slot-fits = let m = slot-inside in let f = p.fits in omega arith
+  pub slot_fits : slot (place_at l r) t < l.size
+  slot_fits = let m = slot-inside in let f = p.fits in omega arith
 
 -- Two ticks less than a depth apart have cells of their own.
 pub apart : (d u t : ℕ) → u < t → t < u + d → u % d ≢ t % d

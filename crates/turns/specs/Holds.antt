@@ -1,9 +1,11 @@
 -- What the cells hold of a sheet.
 use Rattle.std.specs.Prelude.{◌≡◌, ℕ, ◌+◌, ◌%◌, ◌<◌, ◌≤◌, true, List, length, slice_index_or}
-use Rattle.reading.specs.declared.faults.Reading.{Reading}
-use Rattle.theory.specs.Rule.{Sheet, row_at}
+use Rattle.reading.specs.Faults.{Reading}
+use Rattle.kind.specs.Kinds.{Meaning}
+use Rattle.theory.specs.Says.{Says}
+use Rattle.theory.specs.Rule.{Sheet, Fits, row_at}
 use Rattle.table.specs.declared.place.Place.{Place}
-use Rattle.table.specs.Layout.{Layout, place_at, is_asa}
+use Rattle.table.specs.Layout.{Layout, place_at, position_at, is_asa}
 
 -- The cell i holds x.
 abbrev pub At : {A : Type 0} → List A → ℕ → A → Type 0
@@ -37,3 +39,18 @@ pub record Midst {V : Type 0} (l : Layout) (position : ℕ → ℕ) (cells : Lis
 -- No cell from the end of the windows on has changed.
 abbrev pub Kept : {A : Type 0} → Layout → List A → List A → Type 0
 Kept {A} l old new = (i : ℕ) → l.windows ≤ i → (d : A) → slice_index_or new i d ≡ slice_index_or old i d
+
+-- Row r is made in turn j over the rows up to stage s: within the turn, the cells hold each sheet that fits one row further.
+abbrev pub RowMade : {V : Type 0} → Layout → Meaning V → Says V → ℕ → ℕ → ℕ → List (Reading V) → List (Reading V) → Type 0
+RowMade {V} l k says s j r old new =
+    (H : ℕ) (σ : Sheet V) → Fits l.rows k says H σ → Midst l (position_at l) old σ s j (position_at l r) → Midst l (position_at l) new σ s j (position_at l r + 1)
+
+-- Turn j is made over the rows up to stage s: the cells hold each sheet that fits one turn further.
+abbrev pub TurnMade : {V : Type 0} → Layout → Meaning V → Says V → ℕ → ℕ → List (Reading V) → List (Reading V) → Type 0
+TurnMade {V} l k says s j old new =
+    (H : ℕ) (σ : Sheet V) → Fits l.rows k says H σ → Holds l old σ s j → Holds l new σ s (j + 1)
+
+-- The first n turns are made over the rows up to stage s.
+abbrev pub TurnsMade : {V : Type 0} → Layout → Meaning V → Says V → ℕ → ℕ → List (Reading V) → List (Reading V) → Type 0
+TurnsMade {V} l k says s n old new =
+    (H : ℕ) (σ : Sheet V) → Fits l.rows k says H σ → Settled l old σ s → Holds l new σ s n

@@ -2,3 +2,4 @@ pub mod Holds
 pub mod Reads
 pub mod Ticks
 pub mod Searches
+pub mod Loops

@@ -1,8 +1,8 @@
 -- The operands of a row in its turn, and the reading that they decide.
-use Rattle.std.specs.Prelude.{◌≡◌, ℕ, ◌+◌, ◌-◌, ◌<◌, true, false, List, length}
-use Rattle.reading.specs.Faults.{of_kind, of_source}
+use Rattle.std.specs.Prelude.{◌≡◌, ℕ, ◌+◌, ◌-◌, ◌<◌, true, false, Bool, List, Result, Ok, Err, ok_or}
+use Rattle.reading.specs.Faults.{Reading, of_kind, of_source}
+use Rattle.reading.specs.declared.faults.FaultNumber.{FaultNumber}
 use Rattle.reading.specs.declared.faults.FaultNumber.TheVariants.{WrongKind}
-use Rattle.reading.specs.declared.faults.Reading.{Reading}
 use Rattle.reading.specs.declared.rows.Row.{Row}
 use Rattle.reading.specs.declared.rows.Row.TheVariants.{Literal, Truth, Channel, Same, First, Next, Fby, Asa, If, And, Or, Not, Negate, Compute, Relate}
 use Rattle.kind.specs.Kinds.{Meaning}
@@ -11,10 +11,19 @@ use Rattle.theory.specs.Rule.{Sheet, born, answered, after, by_truth, connected}
 use Rattle.table.specs.Layout.{Layout, place_at}
 use Rattle.turns.specs.Holds.{At, slot}
 
+-- The reading of an answer given in row r at tick t: its value, or a fault whose number is one of the answer's.
+abbrev pub Answers : {V F : Type 0} → (F → FaultNumber → Type 0) → Result V F → ℕ → ℕ → Reading V → Type 0
+Answers numbers (Ok v) r t z = z ≡ Ok v
+Answers numbers (Err f) r t z = (n : FaultNumber) × numbers f n × (z ≡ born n r t)
+
+-- The truth value that a value is, in row r at tick t; a number is a fault of kind.
+abbrev pub told : {V : Type 0} → Meaning V → V → ℕ → ℕ → Reading Bool
+told k v r t = ok_or (k.told v) (record { number = WrongKind; row = r; tick = t })
+
 -- What row r reads at tick t from the readings a, b and c of its operands; a row that only passes one on has it as a.
 abbrev pub decided : {V : Type 0} → Meaning V → Row → ℕ → ℕ → Reading V → Reading V → Reading V → Reading V
-decided k (Literal n) r t a b c = Reading.Value (k.literal n)
-decided k (Truth w) r t a b c = Reading.Value (k.truth w)
+decided k (Literal n) r t a b c = Ok (k.literal n)
+decided k (Truth w) r t a b c = Ok (k.truth w)
 decided k (Channel x) r t a b c = a
 decided k (Same x) r t a b c = a
 decided k (First x) r t a b c = a
@@ -24,7 +33,7 @@ decided k (Asa x y) r t a b c = a
 decided k (If x y z) r t a b c = after a (λ v. by_truth (k.told v) b c (born WrongKind r t))
 decided k (And x y) r t a b c = connected k false r t a b
 decided k (Or x y) r t a b c = connected k true r t a b
-decided k (Not x) r t a b c = after a (λ v. by_truth (k.told v) (Reading.Value (k.truth false)) (Reading.Value (k.truth true)) (born WrongKind r t))
+decided k (Not x) r t a b c = after a (λ v. by_truth (k.told v) (Ok (k.truth false)) (Ok (k.truth true)) (born WrongKind r t))
 decided k (Negate x) r t a b c = after a (λ v. answered of_kind (k.negated v) r t)
 decided k (Compute o x y) r t a b c = after a (λ v. after b (λ w. answered of_kind (k.computed o v w) r t))
 decided k (Relate o x y) r t a b c = after a (λ v. after b (λ w. answered of_kind (k.related o v w) r t))
@@ -87,24 +96,6 @@ Third l cells (Negate x) t v = Unit
 Third l cells (Compute o x y) t v = Unit
 Third l cells (Relate o x y) t v = Unit
 
--- P holds of each row that a row reads.
-abbrev pub EachRow : (ℕ → Type 0) → Row → Type 0
-EachRow P (Literal n) = Unit
-EachRow P (Truth b) = Unit
-EachRow P (Channel c) = Unit
-EachRow P (Same x) = P x
-EachRow P (First x) = P x
-EachRow P (Next x) = P x
-EachRow P (Fby x y) = P x × P y
-EachRow P (Asa x y) = Unit
-EachRow P (If c x y) = P c × P x × P y
-EachRow P (And x y) = P x × P y
-EachRow P (Or x y) = P x × P y
-EachRow P (Not x) = P x
-EachRow P (Negate x) = P x
-EachRow P (Compute o x y) = P x × P y
-EachRow P (Relate o x y) = P x × P y
-
 -- The cells hold what row r reads at tick t, as the sheet has it.
 -- A later tick of `first` reads the row's own reading before it, and an `asa` row its own cell.
 abbrev pub Ready : {V : Type 0} → Layout → List (Reading V) → Sheet V → Row → ℕ → ℕ → Type 0
@@ -123,7 +114,3 @@ Ready l cells σ (Not x) r t = Has l cells x t (σ x t)
 Ready l cells σ (Negate x) r t = Has l cells x t (σ x t)
 Ready l cells σ (Compute o x y) r t = Has l cells x t (σ x t) × Has l cells y t (σ y t)
 Ready l cells σ (Relate o x y) r t = Has l cells x t (σ x t) × Has l cells y t (σ y t)
-
--- Each row that a row reads stands in the table.
-abbrev pub Within : List Row → Row → Type 0
-Within rows row = EachRow (λ x. x < length rows) row

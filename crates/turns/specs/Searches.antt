@@ -1,7 +1,7 @@
 -- The search of the `asa` rows of a stage, tick by tick.
 use Rattle.std.specs.Prelude.{◌≡◌, ℕ, ◌+◌, ◌-◌, ◌<◌, ◌≤◌, Bool, true, false, cond, ◌&&◌, List, length, Some, None, Option, ◌==◌, ◌≢◌, slice_index_or}
 use Rattle.reading.specs.declared.faults.FaultNumber.TheVariants.{Unreached, WrongKind}
-use Rattle.reading.specs.declared.faults.Reading.{Reading}
+use Rattle.reading.specs.Faults.{Reading}
 use Rattle.reading.specs.declared.rows.Row.TheVariants.{Asa}
 use Rattle.kind.specs.Kinds.{Meaning}
 use Rattle.theory.specs.Says.{Says}

@@ -1,6 +1,6 @@
 -- What it is to make a tick, and to settle a stage, over the cells of a table.
-use Rattle.std.specs.Prelude.{◌≡◌, ℕ, ◌+◌, ◌-◌, ◌<◌, ◌≤◌, Bool, true, false, List, length, Some, None, Option, slice_index_or}
-use Rattle.reading.specs.declared.faults.Reading.{Reading}
+use Rattle.std.specs.Prelude.{◌≡◌, ℕ, ◌+◌, ◌-◌, ◌<◌, ◌≤◌, List, length, Some, None, Option, slice_index_or}
+use Rattle.reading.specs.Faults.{Reading}
 use Rattle.kind.specs.Kinds.{Meaning}
 use Rattle.theory.specs.Says.{Says}
 use Rattle.theory.specs.Rule.{Sheet, Fits}
@@ -34,6 +34,6 @@ pub record Settles {V : Type 0} (l : Layout) (k : Meaning V) (says : Says V) (ol
   pub beyond : Untouched l old new
 
 -- A stage is settled where there are cells enough, the horizon is not too far, and there is such a stage to settle; else the cells are as they were.
-abbrev pub TriedStage : {V : Type 0} → Layout → Meaning V → Says V → List (Reading V) → List (Reading V) → ℕ → ℕ → Bool → Type 0
-TriedStage l k says old new stage H true = Settles l k says old new stage H
-TriedStage l k says old new stage H false = (new ≡ old) × (l.size ≤ length old → H ≤ most → 0 < stage → ⊥)
+abbrev pub TriedStage : {V : Type 0} → Layout → Meaning V → Says V → List (Reading V) → List (Reading V) → ℕ → ℕ → Option Unit → Type 0
+TriedStage l k says old new stage H (Some done) = Settles l k says old new stage H
+TriedStage l k says old new stage H None = (new ≡ old) × (l.size ≤ length old → H ≤ most → 0 < stage → ⊥)

@@ -1,23 +1,19 @@
 //! What a row reads, from the readings of its operands.
 
-ghost use Rattle.std.specs.Prelude.{◌≡◌, true, false, not};
-ghost use Rattle.reading.specs.Faults.{of_kind, of_source};
-ghost use Rattle.theory.specs.Rule.{is, answered, born};
-ghost use Rattle.turns.specs.Reads.{decided};
+ghost use Rattle.std.specs.Prelude.{◌≡◌};
+ghost use Rattle.theory.specs.Rule.{is, born};
+ghost use Rattle.turns.specs.Reads.{Answers, decided, told};
 
 use kind::Kind;
-use reading::{Fault, FaultNumber, KindFault, Reading, Row, SourceFault};
+use reading::{Fault, FaultNumber, Reading, Row};
 
 /// Whether a reading is the truth value `b`.
 pub(crate) fn is<V: Kind>(b: bool, reading: &Reading<V>) -> bool
     ensures { result ≡ is V.Kind.meaning b reading.now }
 {
     match reading {
-        Reading::Value(v) => match (*v).told() {
-            Some(c) => b == c,
-            None => false,
-        },
-        Reading::Fault(_) => false,
+        Ok(v) => (*v).told() == Some(b),
+        Err(_) => false,
     }
 }
 
@@ -25,27 +21,29 @@ pub(crate) fn is<V: Kind>(b: bool, reading: &Reading<V>) -> bool
 pub(crate) fn fault<V>(number: FaultNumber, row: u8, tick: u32) -> Reading<V>
     ensures { result ≡ born number row tick }
 {
-    Reading::Fault(Fault { number, row, tick })
+    Err(Fault { number, row, tick })
 }
 
-/// What the kind answers, in a row at a tick.
-pub(crate) fn computed<V: Kind>(answer: Result<V, KindFault>, row: u8, tick: u32) -> Reading<V>
-    ensures { result ≡ answered of_kind answer row tick }
+/// What the kind or the source answers, in a row at a tick.
+pub(crate) fn answered<V, F: Into<FaultNumber>>(
+    answer: Result<V, F>,
+    row: u8,
+    tick: u32,
+) -> Reading<V>
+    ensures { Answers F.Into.converts answer row tick result }
 {
     match answer {
-        Ok(v) => Reading::Value(v),
-        Err(f) => fault(FaultNumber::from(f), row, tick),
+        Ok(v) => Ok(v),
+        Err(f) => fault(f.into(), row, tick),
     }
 }
 
-/// What the source says, in a row at a tick.
-pub(crate) fn heard<V: Kind>(said: Result<V, SourceFault>, row: u8, tick: u32) -> Reading<V>
-    ensures { result ≡ answered of_source said row tick }
+/// The truth value that a value is, in a row at a tick.
+fn truth<V: Kind>(value: V, row: u8, tick: u32) -> Result<bool, Fault>
+    ensures { result ≡ told V.Kind.meaning value row tick }
 {
-    match said {
-        Ok(v) => Reading::Value(v),
-        Err(f) => fault(FaultNumber::from(f), row, tick),
-    }
+    let number = FaultNumber::WrongKind;
+    value.told().ok_or(Fault { number, row, tick })
 }
 
 /// What row `r` reads at tick `t` from the readings of its operands.
@@ -60,44 +58,21 @@ pub fn decide<V: Kind>(
     ensures { result ≡ decided V.Kind.meaning row r t a.now b.now c.now }
 {
     match (row, a, b) {
-        (Row::Literal(n), _, _) => Reading::Value(V::literal(n)),
-        (Row::Truth(w), _, _) => Reading::Value(V::truth(w)),
-        (
-            Row::Channel(_)
-            | Row::Same(_)
-            | Row::First(_)
-            | Row::Next(_)
-            | Row::Fby(_, _)
-            | Row::Asa(_, _),
-            _,
-            _,
-        ) => *a,
-        (Row::And(_, _), _, _) if is(false, a) || is(false, b) => Reading::Value(V::truth(false)),
-        (Row::Or(_, _), _, _) if is(true, a) || is(true, b) => Reading::Value(V::truth(true)),
-        (_, Reading::Fault(f), _) => Reading::Fault(*f),
-        (Row::Not(_), Reading::Value(v), _) => match (*v).told() {
-            Some(w) => Reading::Value(V::truth(!w)),
-            None => fault(FaultNumber::WrongKind, r, t),
-        },
-        (Row::If(_, _, _), Reading::Value(v), _) => match (*v).told() {
-            Some(true) => *b,
-            Some(false) => *c,
-            None => fault(FaultNumber::WrongKind, r, t),
-        },
-        (Row::Negate(_), Reading::Value(v), _) => computed((*v).negate(), r, t),
-        (_, _, Reading::Fault(f)) => Reading::Fault(*f),
-        (Row::And(_, _), _, _) if is(true, a) && is(true, b) => Reading::Value(V::truth(true)),
-        (Row::Or(_, _), _, _) if is(false, a) && is(false, b) => Reading::Value(V::truth(false)),
-        (Row::Compute(op, _, _), Reading::Value(v), Reading::Value(w)) => computed(
-            V::compute(op, *v, *w),
-            r,
-            t,
-        ),
-        (Row::Relate(op, _, _), Reading::Value(v), Reading::Value(w)) => computed(
-            V::relate(op, *v, *w),
-            r,
-            t,
-        ),
+        (Row::Literal(n), _, _) => Ok(V::literal(n)),
+        (Row::Truth(w), _, _) => Ok(V::truth(w)),
+        (Row::Channel(_) | Row::Same(_) | Row::First(_) | Row::Next(_), _, _) => *a,
+        (Row::Fby(_, _) | Row::Asa(_, _), _, _) => *a,
+        (Row::And(_, _), _, _) if is(false, a) || is(false, b) => Ok(V::truth(false)),
+        (Row::Or(_, _), _, _) if is(true, a) || is(true, b) => Ok(V::truth(true)),
+        (_, Err(f), _) => Err(*f),
+        (Row::Not(_), Ok(v), _) => Ok(V::truth(!truth(*v, r, t)?)),
+        (Row::If(_, _, _), Ok(v), _) => if truth(*v, r, t)? { *b } else { *c },
+        (Row::Negate(_), Ok(v), _) => answered((*v).negate(), r, t),
+        (_, _, Err(f)) => Err(*f),
+        (Row::And(_, _), _, _) if is(true, a) && is(true, b) => Ok(V::truth(true)),
+        (Row::Or(_, _), _, _) if is(false, a) && is(false, b) => Ok(V::truth(false)),
         (Row::And(_, _) | Row::Or(_, _), _, _) => fault(FaultNumber::WrongKind, r, t),
+        (Row::Compute(op, _, _), Ok(v), Ok(w)) => answered(V::compute(op, *v, *w), r, t),
+        (Row::Relate(op, _, _), Ok(v), Ok(w)) => answered(V::relate(op, *v, *w), r, t),
     }
 }

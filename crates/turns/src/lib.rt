@@ -3,6 +3,7 @@
 #![tactic(auto)]
 
 mod decision;
+mod looping;
 mod settle;
 mod turn;
 

@@ -1,149 +1,31 @@
 //! The search for the readings of `asa` rows: one pass over the ticks for all rows of a stage.
 
 ghost use Rattle.std.specs.Prelude.{◌≡◌, ℕ, ◌-◌, ◌<◌, ◌≤◌, true, false, length, slice_index_or, slice_set};
-ghost use Rattle.theory.specs.Rule.{Sheet};
-ghost use Rattle.table.specs.Layout.{Planned};
+ghost use Rattle.theory.specs.Rule.{Sheet, row_at};
+ghost use Rattle.table.specs.Layout.{place_at, is_asa};
 ghost use Rattle.table.specs.Views.{seen};
 ghost use Rattle.turns.specs.Holds.{Settled};
+ghost use Rattle.turns.specs.Loops.{laid, Stays};
 ghost use Rattle.turns.specs.Reads.{Has};
 ghost use Rattle.turns.specs.Searches.{searching, found_at, Ends, Seeking, SoughtRow, SoughtAll};
 ghost use Rattle.turns.specs.Ticks.{Untouched, Settles, TriedStage};
 
 use crate::decision::{fault, is};
-use crate::turn::{MOST, fetch, turn};
+use crate::looping::Loop;
+use crate::turn::MOST;
 use kind::Kind;
 use reading::{FaultNumber, Reading, Row};
 use source::Source;
+use std::num::NonZeroU8;
 use table::View;
 
 /// What an `asa` row reads, from its sides at the tick that ends its search.
 fn taken<V: Kind>(x: Reading<V>, y: Reading<V>, r: u8, t: u32) -> Reading<V>
     ensures { result ≡ found_at V.Kind.meaning r t x y }
 {
-    match y {
-        Reading::Fault(f) => Reading::Fault(f),
-        Reading::Value(v) => match v.told() {
-            Some(true) => x,
-            _ => fault(FaultNumber::WrongKind, r, t),
-        },
-    }
-}
-
-/// Whether row `r` is an `asa` row of the stage.
-fn searches(view: &View<'_>, r: u8, stage: u8) -> bool
-    requires planned { Planned (seen view.now) }
-    requires row { r < length view.now.rows.now }
-    ensures { result ≡ searching (seen view.now) stage r }
-{
-    let row = view.rows[r as usize];
-    let place = view.places[r as usize];
-    match row {
-        Row::Asa(_, _) => place.stage == stage,
-        _ => false,
-    }
-}
-
-/// The reading of the row `r`, which is `x asa y`, if its search ends at tick `t`.
-fn end_at<V: Kind>(
-    view: &View<'_>,
-    cells: &[Reading<V>],
-    t: u32,
-    r: u8,
-    x: u8,
-    y: u8,
-) -> Option<Reading<V>>
-    requires planned { Planned (seen view.now) }
-    requires room { view.now.size ≤ length cells.now }
-    requires left { x < length view.now.rows.now }
-    requires right { y < length view.now.rows.now }
-    ensures { (σ : Sheet V) → Has (seen view.now) cells.now x t (σ x t) → Has (seen view.now) cells.now y t (σ y t) → Ends V.Kind.meaning σ r x y t result }
-{
-    let end = fetch(view, cells, y, t);
-    if is(false, &end) {
-        return None;
-    }
-    let start = fetch(view, cells, x, t);
-    Some(taken(start, end, r, t))
-}
-
-/// Writes a reading into a cell.
-fn store<V: Kind>(cells: &mut [Reading<V>], i: usize, reading: Reading<V>)
-    requires { i < length cells.old }
-    ensures { cells.new ≡ slice_set cells.old i reading }
-{
-    cells[i] = reading;
-}
-
-/// Starts the search of each `asa` row of a stage. While it is pending, the row's cell has fault 1.
-fn begin<V: Kind>(view: &View<'_>, cells: &mut [Reading<V>], stage: u8) -> [bool; 256]
-    requires planned { Planned (seen view.now) }
-    requires room { view.now.size ≤ length cells.old }
-    requires stage { 0 < stage }
-    ensures seeking { (σ : Sheet V) → Settled (seen view.now) cells.old σ (stage - 1) → Settled (seen view.now) cells.new σ (stage - 1) × Seeking (seen view.now) V.Kind.meaning cells.new σ result stage 0 0 }
-    ensures beyond { Untouched (seen view.now) cells.old cells.new }
-{
-    let mut pending = [false; 256];
-    for k in 0..view.order.len() {
-        let r = view.order[k];
-        if searches(view, r, stage) {
-            let place = view.places[r as usize];
-            store(cells, place.settled, fault(FaultNumber::Unreached, r, 0));
-            pending[r as usize] = true;
-        }
-    }
-    pending
-}
-
-/// Goes on with the search of row `r` at tick `t`: where its right side is not false it has found its reading.
-fn seek_row<V: Kind>(
-    view: &View<'_>,
-    cells: &mut [Reading<V>],
-    stage: u8,
-    t: u32,
-    r: u8,
-    pending: &mut [bool; 256],
-)
-    requires planned { Planned (seen view.now) }
-    requires room { view.now.size ≤ length cells.old }
-    requires stage { 0 < stage }
-    requires row { r < length view.now.rows.now }
-    ensures sought { SoughtRow (seen view.now) V.Kind.meaning stage t r cells.old pending.old cells.new pending.new }
-    ensures beyond { Untouched (seen view.now) cells.old cells.new }
-{
-    if !pending[r as usize] {
-        return;
-    }
-    if !searches(view, r, stage) {
-        return;
-    }
-    let row = view.rows[r as usize];
-    let Row::Asa(x, y) = row else {
-        return;
-    };
-    let Some(reading) = end_at(view, cells, t, r, x, y) else {
-        return;
-    };
-    let place = view.places[r as usize];
-    store(cells, place.settled, reading);
-    pending[r as usize] = false;
-}
-
-/// Goes on with the search of all rows of the stage at tick `t`.
-fn seek<V: Kind>(
-    view: &View<'_>,
-    cells: &mut [Reading<V>],
-    stage: u8,
-    t: u32,
-    pending: &mut [bool; 256],
-)
-    requires planned { Planned (seen view.now) }
-    requires room { view.now.size ≤ length cells.old }
-    requires stage { 0 < stage }
-    ensures sought { SoughtAll (seen view.now) V.Kind.meaning stage t cells.old pending.old cells.new pending.new }
-    ensures beyond { Untouched (seen view.now) cells.old cells.new }
-{
-    for k in 0..view.order.len() {
-        seek_row(view, cells, stage, t, view.order[k], pending);
+    match y?.told() {
+        Some(true) => x,
+        _ => fault(FaultNumber::WrongKind, r, t),
     }
 }
 
@@ -151,54 +33,127 @@ fn seek<V: Kind>(
 fn ended(pending: &[bool; 256]) -> bool
     ensures { result ≡ true → (k : ℕ) → slice_index_or pending.now k false ≡ false }
 {
-    for p in pending {
-        if *p {
-            return false;
-        }
-    }
-    true
+    !pending.contains(&true)
 }
 
-/// Finds the readings of the `asa` rows of a stage, and stops as soon as all have one.
-fn search<V: Kind, S: Source<V>>(
-    view: &View<'_>,
-    source: &S,
-    cells: &mut [Reading<V>],
-    stage: u8,
-    horizon: u32,
-)
-    requires planned { Planned (seen view.now) }
-    requires room { view.now.size ≤ length cells.old }
-    requires horizon { horizon ≤ 100000 }
-    requires stage { 0 < stage }
-    ensures { Settles (seen view.now) V.Kind.meaning (S.Source.meaning source.now).says cells.old cells.new stage horizon }
-{
-    let mut pending = begin(view, cells, stage);
-    for j in 0..horizon + view.lag {
-        turn(view, source, cells, stage - 1, j);
-        if j >= view.lag {
-            seek(view, cells, stage, j - view.lag, &mut pending);
+impl<'v, 'c, V: Kind> Loop<'v, 'c, V> {
+    /// Whether row `r` is an `asa` row of the stage.
+    fn searches(&self, r: u8, stage: NonZeroU8) -> bool
+        requires row { r < length self.now.view.rows.now }
+        ensures { result ≡ searching (laid self.now) stage.value r }
+    {
+        matches!(self.row(r), Row::Asa(_, _)) && self.place(r).stage == stage.get()
+    }
+
+    /// The reading of the row `r`, which is `x asa y`, if its search ends at tick `t`.
+    fn end_at(&self, r: u8, x: u8, y: u8, t: u32) -> Option<Reading<V>>
+        requires left { x < length self.now.view.rows.now }
+        requires right { y < length self.now.view.rows.now }
+        ensures { (σ : Sheet V) → Has (laid self.now) self.now.cells.now x t (σ x t) → Has (laid self.now) self.now.cells.now y t (σ y t) → Ends V.Kind.meaning σ r x y t result }
+    {
+        let end = self.fetch(y, t);
+        if is(false, &end) {
+            return None;
+        }
+        let start = self.fetch(x, t);
+        Some(taken(start, end, r, t))
+    }
+
+    /// Writes a reading into the own cell of an `asa` row.
+    fn store(&mut self, r: u8, reading: Reading<V>)
+        requires row { r < length self.old.view.rows.now }
+        requires asa { is_asa (row_at self.old.view.rows.now r) ≡ true }
+        ensures cells { self.new.cells.now ≡ slice_set self.old.cells.now (place_at (laid self.old) r).settled reading }
+        ensures stays { Stays self.old self.new }
+    {
+        let place = self.view.places[r as usize];
+        self.cells[place.settled] = reading;
+    }
+
+    /// Starts the search of each `asa` row of a stage. While it is pending, the row's cell has fault 1.
+    fn begin(&mut self, stage: NonZeroU8) -> [bool; 256]
+        ensures seeking { (σ : Sheet V) → Settled (laid self.old) self.old.cells.now σ (stage.value - 1) → Settled (laid self.old) self.new.cells.now σ (stage.value - 1) × Seeking (laid self.old) V.Kind.meaning self.new.cells.now σ result stage.value 0 0 }
+        ensures beyond { Untouched (laid self.old) self.old.cells.now self.new.cells.now }
+        ensures stays { Stays self.old self.new }
+    {
+        let mut pending = [false; 256];
+        let order = self.view.order;
+        for &r in order {
+            if self.searches(r, stage) {
+                self.store(r, fault(FaultNumber::Unreached, r, 0));
+                pending[r as usize] = true;
+            }
+        }
+        pending
+    }
+
+    /// Goes on with the search of row `r` at tick `t`: where its right side is not false it has found its reading.
+    fn seek_row(&mut self, stage: NonZeroU8, t: u32, r: u8, pending: &mut [bool; 256])
+        requires row { r < length self.old.view.rows.now }
+        ensures sought { SoughtRow (laid self.old) V.Kind.meaning stage.value t r self.old.cells.now pending.old self.new.cells.now pending.new }
+        ensures beyond { Untouched (laid self.old) self.old.cells.now self.new.cells.now }
+        ensures stays { Stays self.old self.new }
+    {
+        if !pending[r as usize] || !self.searches(r, stage) {
+            return;
+        }
+        let Row::Asa(x, y) = self.row(r) else {
+            return;
+        };
+        if let Some(reading) = self.end_at(r, x, y, t) {
+            self.store(r, reading);
+            pending[r as usize] = false;
+        }
+    }
+
+    /// Goes on with the search of all rows of the stage at tick `t`.
+    fn seek(&mut self, stage: NonZeroU8, t: u32, pending: &mut [bool; 256])
+        ensures sought { SoughtAll (laid self.old) V.Kind.meaning stage.value t self.old.cells.now pending.old self.new.cells.now pending.new }
+        ensures beyond { Untouched (laid self.old) self.old.cells.now self.new.cells.now }
+        ensures stays { Stays self.old self.new }
+    {
+        let order = self.view.order;
+        for &r in order {
+            self.seek_row(stage, t, r, pending);
+        }
+    }
+
+    /// Finds the readings of the `asa` rows of a stage, and stops as soon as all have one.
+    fn search<S: Source<V>>(&mut self, source: &S, stage: NonZeroU8, horizon: u32)
+        requires horizon { horizon ≤ 100000 }
+        ensures settles { Settles (laid self.old) V.Kind.meaning (S.Source.meaning source.now).says self.old.cells.now self.new.cells.now stage.value horizon }
+        ensures stays { Stays self.old self.new }
+    {
+        let lag = self.view.lag;
+        let lower = stage.get() - 1;
+        let mut pending = self.begin(stage);
+        self.turns(source, lower, lag);
+        for t in 0..horizon {
             if ended(&pending) {
                 return;
             }
+            self.turn(source, lower, t + lag);
+            self.seek(stage, t, &mut pending);
         }
     }
 }
 
 /// Finds the readings of the `asa` rows of a stage, where those of lower stages are found.
-/// Does nothing, and answers false, where there are too few cells, too many ticks, or no such stage.
+/// Does nothing, and answers `None`, where there are too few cells, too many ticks, or no such stage.
 pub fn settle_stage<V: Kind, S: Source<V>>(
     view: &View<'_>,
     source: &S,
     cells: &mut [Reading<V>],
     stage: u8,
     horizon: u32,
-) -> bool
+) -> Option<()>
     ensures { TriedStage (seen view.now) V.Kind.meaning (S.Source.meaning source.now).says cells.old cells.new stage horizon result }
 {
-    if cells.len() < view.size || horizon > MOST || stage == 0 {
-        return false;
+    let stage = NonZeroU8::new(stage)?;
+    if cells.len() < view.size || horizon > MOST {
+        return None;
     }
-    search(view, source, cells, stage, horizon);
-    true
+    let mut lap = Loop { view: *view, cells };
+    lap.search(source, stage, horizon);
+    Some(())
 }

@@ -1,8 +1,8 @@
-use Rattle.std.proofs.Common.{◌≡◌, ℕ, ◌+◌, ◌/◌, ◌%◌, ◌<◌, ◌≤◌, ◌≢◌, List, [], ◌∷◌, ◌++◌, length, get_or, set, Some, sym, ap, ◌∙◌, mod-lt, mul-le-mul_left, mul-suc, arith, length-append, length-set, get_or-set_other, get_or-set_same}
+use Rattle.std.proofs.Common.{◌≡◌, ℕ, ◌+◌, ◌/◌, ◌%◌, ◌<◌, ◌≢◌, List, [], ◌∷◌, ◌++◌, length, set, sym, ◌∙◌, mod-lt, mul-le-mul_left, mul-suc, arith, length-append, length-set, get_or-set_other, get_or-set_same}
 use native.Mathlib.Nat.{div-add-mod}
 use native.Mathlib.Decide.{dec_lt}
-use Rattle.std.proofs.lemmas.List.{get_or_append_left, get_or_at, get_or_default, set_past}
-use Rattle.window.specs.Windows.{Holds, entry_at}
+use Rattle.std.proofs.lemmas.List.{get_or_append_left, get_or_at}
+use Rattle.window.specs.Windows.{Holds}
 
 -- two ticks less than a depth apart have cells of their own
 pub apart : (d k n : ℕ) → k < n → n < k + d → k % d ≢ n % d
@@ -14,28 +14,18 @@ apart d k n lt near e =
       | no down ↦ (let m = mul-le-mul_left {m = n / d} {n = k / d} d (omega arith) in omega arith)
     ]
 
-module _ {A : Type 0} (cells history : List A) (n : ℕ) (x : A) (p : 0 < length cells) (ln : length history ≡ n) (h : Holds cells history) where
-  pub pushed : Holds (set cells (n % length cells) x) (history ++ x ∷ [])
+-- The entry of tick n, put into the cell i of its window.
+module _ {A : Type 0} (cells history : List A) (i n : ℕ) (x : A) (p : 0 < length cells) (at : i ≡ n % length cells) (ln : length history ≡ n) (h : Holds cells history) where
+  pub pushed : Holds (set cells i x) (history ++ x ∷ [])
   pushed k d lt near =
       let l = length-append history (x ∷ []) in
-      let s = length-set cells (n % length cells) x in
+      let s = length-set cells i x in
       let m : n % length cells < length cells = mod-lt n p in
       elim (dec_lt k n) [
         | yes old ↦
             (let ne : k % length cells ≢ n % length cells = apart (length cells) k n old (omega arith) in
-            rw s (rw get_or-set_other (h k d (omega arith) (omega arith) ∙ sym (get_or_append_left history (x ∷ []) d k (omega arith)))))
+            rw s (rw at (rw get_or-set_other (h k d (omega arith) (omega arith) ∙ sym (get_or_append_left history (x ∷ []) d k (omega arith))))))
         | no new ↦
             (let e : k ≡ n = omega arith in
-            rw (s, e, get_or-set_same) (sym (get_or_at history x [] d n ln)))
+            rw (s, e, at, get_or-set_same) (sym (get_or_at history x [] d n ln)))
       ]
-
-pub entry-at : {A : Type 0} (cells : List A) (i : ℕ) (d : A) → i < length cells → Some (get_or cells i d) ≡ entry_at cells i
-entry-at [] i d lt = let n : i < 0 = lt in absurd (omega arith)
-entry-at (x ∷ xs) i d lt = ap Some (get_or_default (x ∷ xs) i d x lt)
-
--- A window without cells keeps nothing.
-pub unkept : {A : Type 0} (cells : List A) (i : ℕ) (x : A) → length cells ≤ 0 → set cells i x ≡ cells
-unkept cells i x e = set_past cells i x (omega arith)
-
-pub pushed_none : {A : Type 0} (cells history : List A) (x : A) → length cells ≤ 0 → Holds cells (history ++ x ∷ [])
-pushed_none cells history x e k d lt near = absurd (omega arith)

@@ -25,6 +25,7 @@ impl<'a, T: Copy> Window<'a, T> {
     }
 
     /// Keeps the entry of a tick, in the place of the one that is as many ticks older as there are cells.
+    #[tactic(auto, using(crate::proofs::Ring::pushed))]
     pub fn put(&mut self, tick: u32, entry: T)
         ensures cells { self.new.cells.now ≡ slice_set self.old.cells.now (tick % length self.old.cells.now) entry }
         ensures named { self.new.cells.ghost_name ≡ self.old.cells.ghost_name }
@@ -37,16 +38,10 @@ impl<'a, T: Copy> Window<'a, T> {
     }
 
     /// The entry of a tick, if there are cells; it is the one kept last among those whose ticks share its cell.
-    pub fn get(&mut self, tick: u32) -> Option<T>
-        ensures same { self.new ≡ self.old }
-        ensures value { result ≡ recalled self.old.cells.now tick }
-        ensures held { (history : List T) → Holds self.old.cells.now history → tick < length history → length history ≤ tick + length self.old.cells.now → (d : T) → result ≡ Some (slice_index_or history tick d) }
+    pub fn get(&self, tick: u32) -> Option<T>
+        ensures value { result ≡ recalled self.now.cells.now tick }
+        ensures held { (history : List T) → Holds self.now.cells.now history → tick < length history → length history ≤ tick + length self.now.cells.now → (d : T) → result ≡ Some (slice_index_or history tick d) }
     {
-        let depth = self.cells.len();
-        if depth > 0 {
-            Some(self.cells[slot(tick, depth)])
-        } else {
-            None
-        }
+        self.cells.get(slot(tick, self.cells.len())).copied()
     }
 }

@@ -5,3 +5,6 @@ use Rattle.load.proofs.heads.defines.Goals as goal
 
 pub returns-in-Name : goal.returns-in-Name
 returns-in-Name c = search (rules, compares_Decides same (search rules))
+
+pub returns-in_default : goal.returns-in_default
+returns-in_default c = search (rules, compares_Decides same (search rules))

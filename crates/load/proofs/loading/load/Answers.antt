@@ -1,33 +1,41 @@
-use Rattle.std.proofs.Common.{length, take, Ok, Err, refl, ap, ◌∙◌, arith}
-use Rattle.std.proofs.lemmas.List.{length-take}
-use Rattle.load.specs.declared.refusal.Refusal.TheVariants.{Ring}
+use Rattle.std.proofs.Common.{◌≡◌, ◌+◌, length, take, Ok, Err, ap, ◌∙◌, rules, arith}
+use Rattle.std.proofs.lemmas.List.{length-take, length-map}
+use Rattle.std.proofs.lemmas.Result.{err_from_is_err_and}
 use Rattle.table.proofs.Edges.{ring-only}
-use Rattle.load.proofs.Closings.{closed-table, length-table-rows}
-use Rattle.load.proofs.Passes.{passed}
+use Rattle.load.specs.Rows.{node_row}
+use Rattle.load.proofs.Closings.{closed_table}
+use Rattle.load.proofs.Passes.{passed, rest_passed, rest_stopped, checked}
 use Rattle.load.proofs.loading.load.Goals as goal
 
-pub returns-in-Ok : goal.returns-in-Ok
-returns-in-Ok c =
-    let d = c.in_ok-draft.draft in
-    record {
-      draft = Ok d;
-      judged = c.in_ok-draft.ensures;
-      made = passed d c.kept-equations.result.now _ c.in_ok-count.count c.in_ok-result.result _ (Ok c.in-Ok.table) c.kept-equations.ensures.value c.in_ok-check_count.ensures c.in_ok-count.ensures.value c.in_ok-check_heads.ensures c.in_ok-result.ensures.value c.in_ok-check_uses.ensures c.table_rows-rows.ensures c.in-Ok.ensures;
-    }
-
-pub returns-in-Err : goal.returns-in-Err
-returns-in-Err c =
+pub returns-in_err-check_uses : goal.returns-in_err-check_uses
+returns-in_err-check_uses c =
     let d = c.in_ok-draft.draft in
     let es = c.kept-equations.result.now in
-    let ns = take c.in_ok-count.count d.operands in
-    let e = c.table_rows-rows.ensures in
-    let l = ap length e ∙ length-table-rows es ns in
-    let w = c.in_ok-result.ensures.within in
-    let ring =
-    ring-only _ c.in_ok-result.result (closed-table es ns _ e (omega (arith, w)))
-    (omega (arith, l, length-take c.in_ok-count.count d.operands, c.in_ok-count.ensures.room)) (omega (arith, l, w)) c.in-Err.field-0 c.in-Err.ensures in
+    let n = c.in_ok-count.count in
+    let p = err_from_is_err_and c.from_residual-in_err-check_uses.result c.from_residual-in_err-check_uses.ensures.1 in
+    let l : length es + n ≡ length es + length (take n d.operands) = omega (arith, length-take n d.operands, c.in_ok-count.ensures.room) in
+    let e = ap (λ m. take m c.nodes_of-nodes.result) l ∙ c.nodes_of-nodes.ensures in
     record {
       draft = Ok d;
       judged = c.in_ok-draft.ensures;
-      made = passed d es _ c.in_ok-count.count c.in_ok-result.result _ (Err Ring) c.kept-equations.ensures.value c.in_ok-check_count.ensures c.in_ok-count.ensures.value c.in_ok-check_heads.ensures c.in_ok-result.ensures.value c.in_ok-check_uses.ensures e (refl, ring);
+      made = passed d es n c.in_ok-result.result _ _ c.kept-equations.ensures.value c.in_ok-check_count.ensures c.in_ok-count.ensures.value c.in_ok-check_heads.ensures c.in_ok-result.ensures.value (rest_stopped d es n _ _ _ _ e c.in_err-check_uses.ensures (p.1 ∙ ap (λ x. Err x) p.2));
+    }
+
+pub returns : goal.returns
+returns c =
+    let d = c.in_ok-draft.draft in
+    let es = c.kept-equations.result.now in
+    let n = c.in_ok-count.count in
+    let l : length es + n ≡ length es + length (take n d.operands) = omega (arith, length-take n d.operands, c.in_ok-count.ensures.room) in
+    let e = ap (λ m. take m c.nodes_of-nodes.result) l ∙ c.nodes_of-nodes.ensures in
+    let xs = take (length es + n) c.nodes_of-nodes.result in
+    let w = c.in_ok-result.ensures.within in
+    let long = length-take (length es + n) c.nodes_of-nodes.result in
+    let rows = ap length c.table_rows-rows.ensures ∙ length-map xs (node_row es (length xs)) in
+    let room = c.in_ok-count.ensures.room in
+    let ring = ring-only _ c.in_ok-result.result (closed_table es xs _ c.table_rows-rows.ensures (omega arith) (omega arith)) (omega arith) (omega arith) in
+    record {
+      draft = Ok d;
+      judged = c.in_ok-draft.ensures;
+      made = passed d es n c.in_ok-result.result _ _ c.kept-equations.ensures.value c.in_ok-check_count.ensures c.in_ok-count.ensures.value c.in_ok-check_heads.ensures c.in_ok-result.ensures.value (rest_passed d es n _ _ _ _ e c.in_ok-check_uses.ensures c.table_rows-rows.ensures (checked _ _ c.check_rows.result _ c.check_rows.ensures ring (λ g f h. search rules) c.map_err.ensures.cases));
     }

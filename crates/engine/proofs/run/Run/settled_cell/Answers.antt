@@ -12,7 +12,7 @@ returns g c =
     let k = g.V.Kind.meaning in
     let r = c.args.row in
     let p = sound-plans run.table.now.schedule run.table.now.checked in
-    let v : c.cell_of.result ≡ cell_of l r = c.cell_of.ensures ∙ ap (λ x. cell_of x r) c.view-view.ensures in
+    let v : c.cell_of.result ≡ cell_of l r = c.cell_of.ensures ∙ ap (λ x. cell_of x r) c.view.ensures in
     record {
       value = v;
       own = subst (Own l r) (sym v) (own-cell l p r);

@@ -1,22 +1,19 @@
-use denote.Enum.Bare.{same_true, same_false}
-use Rattle.std.proofs.Common.{sym, ap, ◌∙◌, rules}
+use denote.Enum.Bare.{same_false}
+use Rattle.std.proofs.Common.{sym, ap, ◌∙◌}
 use Rattle.std.proofs.lemmas.Result.{err_from_is_err_and}
 use Rattle.lexer.specs.contracts.token.Mark.{the_type}
-use Rattle.lexer.specs.declared.token.Token.TheVariants.{Mark}
-use Rattle.lexer.specs.declared.lexer.Next.TheVariants.{Word}
 use Rattle.syntax.specs.Reading.{halted, other_word}
 use Rattle.grammar.specs.Machine.{is}
 use Rattle.grammar.proofs.Parts.{is-other, is-no-mark}
 use Rattle.syntax.proofs.reader.Reader.expect.Goals as goal
 
-pub returns-in_err-found : goal.returns-in_err-found
-returns-in_err-found c = let p = err_from_is_err_and c.from_residual.result c.from_residual.ensures.1 in rw (p.1, p.2) (record { text = c.word.ensures.text; depth = c.word.ensures.depth; moved = tt; marked = halted c.in_err-found.ensures.took })
+pub returns-in_err-found-clause-marked : goal.returns-in_err-found-clause-marked
+returns-in_err-found-clause-marked c =
+    let p = err_from_is_err_and c.from_residual.result c.from_residual.ensures.1 in
+    rw (p.1, p.2) (halted c.in_err-found.ensures.took)
 
-pub returns-in_default : goal.returns-in_default
-returns-in_default c = record { text = c.word.ensures.text; depth = c.word.ensures.depth; moved = tt; marked = let k = c.in_ok-found.ensures.took in other_word k.1 (is-no-mark _ _ c.in_default.not-Mark) }
+pub returns-else-eq-clause-marked : goal.returns-else-eq-clause-marked
+returns-else-eq-clause-marked c = other_word c.in_ok-found.ensures.took.1 (ap (is c.args.mark) c.in-Mark.is ∙ is-other _ _ (same_false the_type _ _ (sym c.if-eq.ensures)))
 
-pub returns-else-eq : goal.returns-else-eq
-returns-else-eq c = record { text = c.word.ensures.text; depth = c.word.ensures.depth; moved = tt; marked = let k = c.in_ok-found.ensures.took in other_word k.1 (ap (is c.args.mark) c.in-Mark.is ∙ is-other _ _ (same_false the_type _ _ (sym c.if-eq.ensures))) }
-
-pub returns-then-eq : goal.returns-then-eq
-returns-then-eq c = record { text = c.word.ensures.text; depth = c.word.ensures.depth; moved = c.in_ok-found.ensures.moved; marked = let k = c.in_ok-found.ensures.took in (k.0, k.1 ∙ ap (λ w. Word w k.0) (c.in-Mark.is ∙ ap Mark (same_true the_type (search rules) _ _ (sym c.if-eq.ensures))), k.2) }
+pub returns-in_default-clause-marked : goal.returns-in_default-clause-marked
+returns-in_default-clause-marked c = other_word c.in_ok-found.ensures.took.1 (is-no-mark _ _ c.in_default.not-Mark)

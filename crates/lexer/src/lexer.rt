@@ -43,6 +43,7 @@ fn class_of(b: u8) -> Class
 }
 
 /// What a word or the space between words goes on with.
+// An enum and no closure: there are these three, and what is proved of each is said by its name.
 #[derive(Clone, Copy)]
 pub enum Run {
     Blanks,

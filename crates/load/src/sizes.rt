@@ -10,6 +10,7 @@ use syntax::Equation;
 pub(crate) const ROWS: usize = 64;
 
 /// Refuses an equation too many, at its place.
+// By a match: no method of Option makes an error of what is there.
 pub(crate) fn check_count(excess: Option<usize>) -> Result<(), Refusal>
     ensures { result ≡ few excess }
 {

@@ -13,8 +13,6 @@ pub use reader::parse;
 pub use refusal::Refusal;
 
 /// Carries the theorem that at most one answer of the reader fits a text.
-pub fn answer_is_single() -> u8
+pub fn answer_is_single()
     ensures { Single }
-{
-    0
-}
+{}

@@ -1,5 +1,5 @@
 -- The reading that a row's operands decide is that of every sheet that fits.
-use Rattle.std.proofs.Common.{◌≡◌, ℕ, zero, suc, ◌-◌, ◌<◌, List, length, get_or, sym, refl, ap, ◌∙◌, inl, inr, arith}
+use Rattle.std.proofs.Common.{◌≡◌, ℕ, zero, suc, ◌-◌, ◌<◌, List, length, get_or, sym, refl, ap, subst, ◌∙◌, inl, inr, arith}
 use Rattle.std.proofs.lemmas.Bool.{cases_lt}
 use Rattle.reading.specs.Faults.{Reading}
 use Rattle.reading.specs.declared.rows.Row.{Row}
@@ -60,6 +60,7 @@ module _ {V : Type 0} (l : Layout) (k : Meaning V) (says : Says V) (H : ℕ) (σ
   agree (Relate o x y) e f la lb lc ra = congruent (decided k (Relate o x y) r t) {z = c} (one_at la ra.0) (one_at lb ra.1) refl ∙ sym (f t)
 
   pub agrees : (row : Row) → row ≡ row_at l.rows r → (v : Reading V) → v ≡ decided k row r t a b c →
-      Left l says cells (row_at l.rows r) r t a → Right l cells (row_at l.rows r) t b → Third l cells (row_at l.rows r) t c →
+      Left l says cells row r t a → Right l cells row t b → Third l cells row t c →
       Ready l cells σ (row_at l.rows r) r t → v ≡ σ r t
-  agrees row e v is_v la lb lc ready = (is_v ∙ ap (λ x. decided k x r t a b c) e) ∙ agree (row_at l.rows r) refl (fits r is) la lb lc ready
+  agrees row e v is_v la lb lc ready =
+      is_v ∙ agree row e (λ u. fits r is u ∙ ap (λ x. rule k says H σ x r u) (sym e)) la lb lc (subst (λ x. Ready l cells σ x r t) (sym e) ready)

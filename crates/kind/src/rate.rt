@@ -58,6 +58,7 @@ impl Number for Finite {
         Finite::try_from(-x)
     }
 
+    // Here and for whole numbers by itself: in one for both, the four operators would each need a trait with its law.
     fn compute(op: Arithmetic, left: f64, right: f64) -> Result<Finite, KindFault> {
         match op {
             Arithmetic::Add => Finite::try_from(left + right),

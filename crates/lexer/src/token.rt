@@ -1,6 +1,7 @@
 //! What a text is made of.
 
 /// A name, its letters small, filled up with zeros.
+// No `String`: reading a text asks for no memory, and a name is copied.
 #[derive(Clone, Copy, PartialEq)]
 pub struct Name {
     pub bytes: [u8; 16],

@@ -59,6 +59,7 @@ impl Shown for Refusal {
     }
 }
 
+// These three by hand and not by a derive: contracts name what `?` makes of an error.
 impl From<load::Refusal> for Refusal {
     ghost from_gives = { λ e r. r ≡ Refusals.Text e };
 

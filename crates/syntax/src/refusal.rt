@@ -14,6 +14,7 @@ pub enum Refusal {
 
 impl Refusal {
     /// The number that the refusal is told by.
+    // By a match, here and in the place: a case that holds a place has no number of its own to cast.
     pub fn number(self) -> u8
         ensures { result ≡ number self }
     {

@@ -76,6 +76,7 @@ impl<'v, 'c, V: Kind> Loop<'v, 'c, V> {
         ensures beyond { Untouched (laid self.old) self.old.cells.now self.new.cells.now }
         ensures stays { Stays self.old self.new }
     {
+        // A mark for each number that a row can have, and no list of rows: no heap in a run, and no bound to keep.
         let mut pending = [false; 256];
         let order = self.view.order;
         for &r in order {

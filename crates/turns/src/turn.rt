@@ -26,6 +26,7 @@ fn put<V: Kind>(cells: &mut [Reading<V>], t: u32, reading: Reading<V>)
     window.put(t, reading);
 }
 
+// That a row is one of the table's is asked by each method: a number that carries it would carry the table too.
 impl<'v, 'c, V: Kind> Loop<'v, 'c, V> {
     /// The row of a number.
     pub(crate) fn row(&self, r: u8) -> Row

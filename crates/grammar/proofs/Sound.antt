@@ -121,7 +121,7 @@ due-level (test m ∷ fs) n p = omega (arith, p.0)
 due-level (branch m c ∷ fs) n p = omega (arith, p.0)
 due-level (other m c a ∷ fs) n p = omega (arith, p.0)
 
-minus_is : (op : Infix) (u : Prefix) → minus op ≡ Some u → word.Infix op ≡ symbol u
+pub minus_is : (op : Infix) (u : Prefix) → minus op ≡ Some u → word.Infix op ≡ symbol u
 minus_is Fby u e = cc
 minus_is Asa u e = cc
 minus_is Or u e = cc

@@ -3,7 +3,6 @@ use Rattle.std.proofs.Common.{◌≡◌, ℕ, ◌+◌, ◌-◌, ◌<◌, ◌≤�
 use Rattle.std.proofs.lemmas.Bool.{le-leb, lt-leb, cond-true, cond-false}
 use Rattle.lexer.specs.declared.token.Atom.{Atom}
 use Rattle.lexer.specs.declared.token.Infix.{Infix}
-use Rattle.lexer.specs.declared.token.Infix.TheVariants.{Fby, Asa, Or, And, Eq, Ne, Lt, Le, Gt, Ge, Add, Sub, Mul, Div}
 use Rattle.lexer.specs.declared.token.Prefix.{Prefix}
 use Rattle.lexer.specs.declared.token.Prefix.TheVariants.{Negate, First, Next, Not}
 use Rattle.lexer.specs.declared.token.Mark.{Mark}
@@ -11,7 +10,7 @@ use Rattle.lexer.specs.declared.token.Mark.TheVariants.{Compute, Output, Where, 
 use Rattle.lexer.specs.declared.token.Token.{Token}
 use Rattle.lexer.specs.declared.token.Token.TheVariants as word
 use Rattle.grammar.specs.Grammar.{levels, prefix_level, choice_level, Tree, leaf, bracket, prefix, infix', choice, level_of, Fits, symbol, words, Equation}
-use Rattle.grammar.specs.Machine.{Frame, group, operand, right, test, branch, other, Spot, due, read, and_then, takes, go_on, is, close, minus, begin_prefix, begin, advance, State, inside, whole, whole_at, end_equation, enter, run, Stops}
+use Rattle.grammar.specs.Machine.{Frame, group, operand, right, test, branch, other, Spot, due, read, and_then, takes, go_on, is, close, begin_prefix, begin, advance, State, inside, whole, whole_at, end_equation, enter, run, Stops}
 use Rattle.std.specs.Prelude.{ok_or}
 use Rattle.lexer.specs.declared.lexer.NotAWord.{NotAWord}
 use Rattle.lexer.specs.declared.lexer.Word.{Word}
@@ -22,6 +21,7 @@ use Rattle.grammar.specs.Machine.{as_prefix}
 use Rattle.syntax.specs.Reading.{opened_by, opened, Lies, Halt, bad, over, Missing, halted, other_word, Expression, Whole, Stuck, no_word, no_such, too_deep, Broken, Begins}
 use Rattle.grammar.proofs.Parts.{refit, taken}
 use Rattle.grammar.proofs.Complete.{mark-stops, along, run-append, begins, infix-left}
+use Rattle.grammar.proofs.Sound.{minus_is}
 
 -- Two words found at one place are the same, and end at the same place.
 pub same_word : {w v : Token} {e g : ℕ} {found : Result (Option Word) NotAWord} → found ≡ Ok (Some (a_word w e)) → found ≡ Ok (Some (a_word v g)) → (w ≡ v) × (e ≡ g)
@@ -306,25 +306,9 @@ no-prefix-begins w n b e fs = by-prefix w n fs b ∙ ap (begin_prefix fs n) e
 pub low-prefix-begins : (w : Token) (n : ℕ) (u : Prefix) → Begins w → as_prefix w ≡ Some u → prefix_level u < n → (fs : List Frame) → begin fs n w ≡ None
 low-prefix-begins w n u b e h fs = by-prefix w n fs b ∙ ap (begin_prefix fs n) e ∙ cond-false _ _ _ (lt-leb n (prefix_level u) h)
 
-minus-symbol : (op : Infix) (u : Prefix) → minus op ≡ Some u → word.Infix op ≡ symbol u
-minus-symbol Fby u e = cc
-minus-symbol Asa u e = cc
-minus-symbol Or u e = cc
-minus-symbol And u e = cc
-minus-symbol Eq u e = cc
-minus-symbol Ne u e = cc
-minus-symbol Lt u e = cc
-minus-symbol Le u e = cc
-minus-symbol Gt u e = cc
-minus-symbol Ge u e = cc
-minus-symbol Add u e = cc
-minus-symbol Sub u e = cc
-minus-symbol Mul u e = cc
-minus-symbol Div u e = cc
-
 pub prefix-word : (w : Token) (u : Prefix) → as_prefix w ≡ Some u → w ≡ symbol u
 prefix-word (word.Atom a) u e = cc
-prefix-word (word.Infix op) u e = minus-symbol op u e
+prefix-word (word.Infix op) u e = minus_is op u e
 prefix-word word.First u e = cc
 prefix-word word.Next u e = cc
 prefix-word word.Not u e = cc

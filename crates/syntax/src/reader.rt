@@ -34,7 +34,8 @@ pub struct Context {
     ghost within_limit: { depth ≤ limit },
 }
 
-// A text, the place of the next word, and the table of what was read.
+// A text, the place of the next word, and the table of what was read. Each method says that the text stays: held apart
+// from the reader, it would be one more parameter of each. What three of them ask, that a word was passed, is of both.
 #[derive(Drop)]
 pub struct Reader<'a> {
     text: &'a [u8],

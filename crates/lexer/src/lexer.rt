@@ -223,6 +223,7 @@ fn number_at(text: &[u8], at: usize) -> Result<Word, NotAWord>
 }
 
 // The word at a place in the text.
+// Text and place stay two parameters, here and above: `scan` and `skip` are given them apart.
 fn word_at(text: &[u8], at: usize) -> Result<Word, NotAWord>
     requires { at < length text.now }
     ensures value { result ≡ word_of (class_of (slice_index text.now at)) text.now at }

@@ -32,10 +32,11 @@ pub(crate) fn answered<V, F: Into<FaultNumber>>(
 ) -> Reading<V>
     ensures { Answers F.Into.converts answer row tick result }
 {
-    match answer {
-        Ok(v) => Ok(v),
-        Err(f) => fault(f.into(), row, tick),
-    }
+    answer.map_err(|f| Fault {
+        number: f.into(),
+        row,
+        tick,
+    })
 }
 
 /// The truth value that a value is, in a row at a tick.

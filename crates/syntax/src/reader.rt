@@ -34,8 +34,9 @@ pub struct Context {
     ghost within_limit: { depth ≤ limit },
 }
 
-// A text, the place of the next word, and the table of what was read. Each method says that the text stays: held apart
-// from the reader, it would be one more parameter of each. What three of them ask, that a word was passed, is of both.
+// A text, the place of the next word, and the table of what was read.
+// Each method says that the text stays: held apart from the reader, it would be one more parameter of each.
+// Three methods ask that a given word was just passed: true of a reader at that call only, it is no fact of its type.
 #[derive(Drop)]
 pub struct Reader<'a> {
     text: &'a [u8],

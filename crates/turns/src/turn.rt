@@ -26,6 +26,7 @@ fn put<V: Kind>(cells: &mut [Reading<V>], t: u32, reading: Reading<V>)
     window.put(t, reading);
 }
 
+// Each method asks that the number of a row is one of the table's: a type that carried it would have to name the table.
 impl<'v, 'c, V: Kind> Loop<'v, 'c, V> {
     /// The row of a number.
     pub(crate) fn row(&self, r: u8) -> Row

@@ -50,7 +50,7 @@ impl<'v, 'c, V: Kind> Loop<'v, 'c, V> {
         ensures { Has (laid self.now) self.now.cells.now x t result }
     {
         let cells = &*self.cells;
-        let place = self.view.places[x as usize];
+        let place = self.place(x);
         cells[place.start + slot(t, place.depth)]
     }
 
@@ -60,8 +60,7 @@ impl<'v, 'c, V: Kind> Loop<'v, 'c, V> {
         requires asa { is_asa (row_at self.now.view.rows.now r) ≡ true }
         ensures { At self.now.cells.now (place_at (laid self.now) r).settled result }
     {
-        let cells = &*self.cells;
-        cells[self.view.places[r as usize].settled]
+        self.cells[self.place(r).settled]
     }
 
     /// The first operand of row `r` at tick `t`.

@@ -128,14 +128,15 @@ impl<'v, 'c, V: Kind> Loop<'v, 'c, V> {
     }
 
     /// Writes the reading of tick `t` into the window of row `r`.
+    #[tactic(auto, using(crate::proofs::Mid::put_part))]
     fn keep(&mut self, r: u8, t: u32, reading: Reading<V>)
         requires row { r < length self.old.view.rows.now }
         ensures cells { self.new.cells.now ≡ slice_set self.old.cells.now (slot (place_at (laid self.old) r) t) reading }
         ensures stays { Stays self.old self.new }
     {
-        let place = self.view.places[r as usize];
+        let place = self.place(r);
         let start = place.start;
-        let end = place.start + place.depth;
+        let end = start + place.depth;
         put(&mut self.cells[start..end], t, reading);
     }
 

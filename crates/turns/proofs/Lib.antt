@@ -1,4 +1,5 @@
 pub mod Slots
+pub mod Staying
 pub mod Agree
 pub mod Midturn
 pub mod Mid

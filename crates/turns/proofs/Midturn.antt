@@ -6,7 +6,7 @@ use Rattle.reading.specs.declared.rows.Row.{Row}
 use Rattle.reading.specs.declared.rows.Row.TheVariants.{Literal, Truth, Channel, Same, First, Next, Fby, Asa, If, And, Or, Not, Negate, Compute, Relate}
 use Rattle.theory.specs.Rule.{Sheet, row_at}
 use Rattle.table.specs.Layout.{Layout, Planned, Edge, EachEdge, is_asa, place_at, position_at}
-use Rattle.turns.specs.Holds.{slot, Window, Holds, Midst, Kept}
+use Rattle.turns.specs.Holds.{slot, Window, Holds, Midst}
 use Rattle.turns.specs.Reads.{Has, Ready}
 use Rattle.turns.proofs.Slots.{slot-inside, apart, slots-differ}
 
@@ -89,29 +89,6 @@ module _ {V : Type 0} (l : Layout) (p : Planned l) (cells : List (Reading V)) (�
       makes v new reads written =
           subst (λ x. Midst l (position_at l) x σ s j (k + 1)) (sym (written ∙ ap (set cells (slot (place_at l r) t)) (reads ready))) made_one
 
-  -- A row of a later stage, or whose first turn is yet to come, is passed over.
-  pub passed-one : (r : ℕ) → r < length l.rows → position_at l r ≡ k → ((place_at l r).stage ≤ s → j < (place_at l r).delay) →
-      Midst l (position_at l) cells σ s j (k + 1)
-  passed-one r is here no-turn = record {
-    made = λ q iq lq h. elim (cases_eq (position_at l q) k) [
-      | inl e ↦ λ u a b d. absurd
-          (let same : q ≡ r = sym (p.listed q iq).1 ∙ (ap (λ i. get_or l.order i 0) (e ∙ sym here) ∙ (p.listed r is).1) in
-          let late = no-turn (subst (λ x. (place_at l x).stage ≤ s) same lq) in
-          let a' = subst (λ x. u + (place_at l x).delay < j + 1) same a in omega arith)
-      | inr e ↦ m.made q iq lq (omega arith)
-    ];
-    coming = λ q iq lq h. m.coming q iq lq (omega arith);
-    settled = m.settled;
-  }
-
 module _ {V : Type 0} (l : Layout) (p : Planned l) (cells : List (Reading V)) (σ : Sheet V) (s j : ℕ) where
-  pub begins : Holds l cells σ s j → Midst l (position_at l) cells σ s j 0
-  begins h = record { made = λ r is low b. absurd (omega arith); coming = λ r is low b. h.windows r is low; settled = h.settled }
-
   pub ends : Midst l (position_at l) cells σ s j (length l.order) → Holds l cells σ s (j + 1)
   ends m = record { windows = λ r is low. m.made r is low (p.listed r is).0; settled = m.settled }
-
--- A write to a window leaves the cells past the windows.
-pub kept-one : {V : Type 0} (l : Layout) → Planned l → (old cells : List (Reading V)) (r t : ℕ) (v : Reading V) → r < length l.rows →
-    Kept l old cells → Kept l old (set cells (slot (place_at l r) t) v)
-kept-one l p old cells r t v is h i past d = get_or-set_other cells _ _ _ d (λ e. let b = slot-inside l p r is t in omega arith) ∙ h i past d

@@ -100,11 +100,6 @@ module _ (l : Layout) (p : Planned l) where
       right_side : (x y a b : ℕ) → Asa x y ≡ Asa a b → y ≡ b
       right_side x y a b e = cc
 
-  -- Its search is over.
-  pub sought-done : {V : Type 0} (k : Meaning V) (σ : Sheet V) (cells : List (Reading V)) (pending : List Bool) (r t n : ℕ) → get_or pending r false ≡ false →
-      Sought l k cells σ pending r t → Sought l k cells σ pending r n
-  sought-done k σ cells pending r t n done h = (h.0, λ z. absurd (both_ways _ done z))
-
   -- Where no search is pending, or all ticks below the horizon are seen, the stage is settled.
   pub all_settled : {V : Type 0} (k : Meaning V) (says : Says V) (H : ℕ) (σ : Sheet V) → Fits l.rows k says H σ → (cells : List (Reading V)) (pending : List Bool) (stage n : ℕ) →
       Settled l cells σ (stage - 1) → Seeking l k cells σ pending stage 0 n → (((q : ℕ) → get_or pending q false ≡ false) ⊎ (H ≤ n)) → Settled l cells σ stage

@@ -2,17 +2,12 @@
 use Rattle.std.proofs.Common.{◌≡◌, ℕ, zero, suc, ◌<◌, Bool, true, false, cond, not, List, length, Some, None, sym, refl, ap, ◌∙◌, subst, inl, inr, arith}
 use Rattle.std.proofs.lemmas.Bool.{cases_lt}
 use Rattle.reading.specs.declared.faults.FaultNumber.TheVariants.{Unreached, WrongKind}
-use Rattle.reading.specs.Faults.{Reading}
 use Rattle.reading.specs.declared.rows.Row.{Row}
 use Rattle.reading.specs.declared.rows.Row.TheVariants.{Literal, Truth, Channel, Same, First, Next, Fby, Asa, If, And, Or, Not, Negate, Compute, Relate}
 use Rattle.kind.specs.Kinds.{Meaning}
 use Rattle.theory.specs.Says.{Says}
 use Rattle.theory.specs.Rule.{Sheet, Fits, rule, row_at, least, or_at, settled, is, after, told_as, born}
 use Rattle.table.specs.Layout.{Layout, Planned, Side, EachSide, is_asa}
-use Rattle.turns.specs.Holds.{Holds, Settled}
-
-pub holds-none : {V : Type 0} (l : Layout) (cells : List (Reading V)) (σ : Sheet V) (s : ℕ) → Settled l cells σ s → Holds l cells σ s 0
-holds-none l cells σ s h = record { windows = λ r is low t a b. absurd (omega arith); settled = h }
 
 pub least-none : (test : ℕ → Bool) (n : ℕ) → ((u : ℕ) → u < n → test u ≡ false) → least test n ≡ None
 least-none test zero h = refl

@@ -66,8 +66,8 @@ impl<'v, 'c, V: Kind> Loop<'v, 'c, V> {
         ensures cells { self.new.cells.now ≡ slice_set self.old.cells.now (place_at (laid self.old) r).settled reading }
         ensures stays { Stays self.old self.new }
     {
-        let place = self.view.places[r as usize];
-        self.cells[place.settled] = reading;
+        let settled = self.place(r).settled;
+        self.cells[settled] = reading;
     }
 
     /// Starts the search of each `asa` row of a stage. While it is pending, the row's cell has fault 1.

@@ -26,7 +26,7 @@ fn put<V: Kind>(cells: &mut [Reading<V>], t: u32, reading: Reading<V>)
     window.put(t, reading);
 }
 
-// That a row is one of the table's is asked by each method: a number that carries it would carry the table too.
+// Each method asks that the number of a row is one of the table's: a type that carried it would have to name the table.
 impl<'v, 'c, V: Kind> Loop<'v, 'c, V> {
     /// The row of a number.
     pub(crate) fn row(&self, r: u8) -> Row
@@ -50,7 +50,7 @@ impl<'v, 'c, V: Kind> Loop<'v, 'c, V> {
         ensures { Has (laid self.now) self.now.cells.now x t result }
     {
         let cells = &*self.cells;
-        let place = self.view.places[x as usize];
+        let place = self.place(x);
         cells[place.start + slot(t, place.depth)]
     }
 
@@ -60,8 +60,7 @@ impl<'v, 'c, V: Kind> Loop<'v, 'c, V> {
         requires asa { is_asa (row_at self.now.view.rows.now r) ≡ true }
         ensures { At self.now.cells.now (place_at (laid self.now) r).settled result }
     {
-        let cells = &*self.cells;
-        cells[self.view.places[r as usize].settled]
+        self.cells[self.place(r).settled]
     }
 
     /// The first operand of row `r` at tick `t`.
@@ -129,14 +128,15 @@ impl<'v, 'c, V: Kind> Loop<'v, 'c, V> {
     }
 
     /// Writes the reading of tick `t` into the window of row `r`.
+    #[tactic(auto, using(crate::proofs::Mid::put_part))]
     fn keep(&mut self, r: u8, t: u32, reading: Reading<V>)
         requires row { r < length self.old.view.rows.now }
         ensures cells { self.new.cells.now ≡ slice_set self.old.cells.now (slot (place_at (laid self.old) r) t) reading }
         ensures stays { Stays self.old self.new }
     {
-        let place = self.view.places[r as usize];
+        let place = self.place(r);
         let start = place.start;
-        let end = place.start + place.depth;
+        let end = start + place.depth;
         put(&mut self.cells[start..end], t, reading);
     }
 

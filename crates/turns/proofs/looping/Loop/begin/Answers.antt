@@ -8,6 +8,7 @@ use Rattle.turns.specs.Loops.{laid, Stays}
 use Rattle.turns.specs.Searches.{Begun, searching}
 use Rattle.turns.specs.Ticks.{Untouched}
 use Rattle.turns.proofs.Searching.{begun-one, begun-skip, begun_all, lower-stays, untouched-still}
+use Rattle.turns.proofs.Staying.{stays_on}
 use Rattle.turns.proofs.looping.Loop.begin.Goals as goal
 use Rattle.turns.proofs.looping.Loop.begin.Goals.{then-searches, else-searches}
 
@@ -37,7 +38,7 @@ loop-r-preserved g c =
                 (begun-one l p cells pending stage n r o.0 o.1 room inside s c.if-searches.self.cells.now e inv.0),
             λ σ h. subst (λ x. Settled l x σ (stage - 1)) (sym e) (lower-stays l p cells room stage r o.0 s (born Unreached r 0) c.args.stage.ok σ (inv.1 σ h)),
             subst (λ x. Untouched l lap.cells.now x) (sym e) (untouched-still l p cells room stage r o.0 s (born Unreached r 0) lap.cells.now inv.2),
-            subst (λ x. Stays lap x) (sym w.self-is) (record { view = w.store.ensures.stays.view ∙ inv.3.view; cells = w.store.ensures.stays.cells ∙ inv.3.cells }),
+            subst (λ x. Stays lap x) (sym w.self-is) (stays_on inv.3 w.store.ensures.stays),
             ap length w.pending-is ∙ (length-set pending r true ∙ inv.4),
           )
       | else-searches w ↦

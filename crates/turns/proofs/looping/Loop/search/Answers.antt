@@ -5,6 +5,7 @@ use Rattle.turns.specs.Loops.{laid}
 use Rattle.turns.specs.Searches.{SoughtAll}
 use Rattle.turns.specs.Ticks.{Untouched}
 use Rattle.turns.proofs.Searching.{all_settled, seeking-kept, sought-turn}
+use Rattle.turns.proofs.Staying.{stays_on}
 use Rattle.turns.proofs.looping.Loop.search.Goals as goal
 
 pub loop-t-init : goal.loop-t-init
@@ -29,7 +30,7 @@ loop-t-init g c =
             seeking-kept l p k old new σ c.begin-pending.result stage 0 kept b.1,
           ),
       λ i past d. kept i (omega arith) d ∙ begun.beyond i past d,
-      record { view = c.turns.ensures.stays.view ∙ begun.stays.view; cells = c.turns.ensures.stays.cells ∙ begun.stays.cells },
+      stays_on begun.stays c.turns.ensures.stays,
     )
 
 pub loop-t-preserved : goal.loop-t-preserved
@@ -47,18 +48,18 @@ loop-t-preserved g c =
     let mid = c.turn.new.self.cells.now in
     let new = c.seek.new.self.cells.now in
     let same = ap seen inv.2.view in
-    let still = c.turn.ensures.stays.view ∙ inv.2.view in
+    let still = stays_on inv.2 c.turn.ensures.stays in
     let lower : c.get-lower.result - 1 ≡ stage - 1 = ap (λ n. n - 1) c.get-lower.ensures.value in
     let made = subst (λ s. TurnMade l k says s (t + l.lag) cells mid) lower (subst (λ x. TurnMade x k says (c.get-lower.result - 1) (t + l.lag) cells mid) same c.turn.ensures.made) in
     let kept = subst (λ x. Kept x cells mid) same c.turn.ensures.kept in
-    let sought = subst (λ x. SoughtAll x k stage t mid c.loop-t.pending new c.seek.new.pending) (ap seen still) c.seek.ensures.sought in
-    let beyond = subst (λ x. Untouched x mid new) (ap seen still) c.seek.ensures.beyond in
+    let sought = subst (λ x. SoughtAll x k stage t mid c.loop-t.pending new c.seek.new.pending) (ap seen still.view) c.seek.ensures.sought in
+    let beyond = subst (λ x. Untouched x mid new) (ap seen still.view) c.seek.ensures.beyond in
     let fit = p.fits in (
       λ σ fits set.
           let now = inv.0 σ fits set in
           sought-turn l p k says H σ fits cells mid new c.loop-t.pending c.seek.new.pending stage t c.loop-t-test.true (made H σ fits now.0) kept now.1 sought,
       λ i past d. beyond i past d ∙ (kept i (omega arith) d ∙ inv.1 i past d),
-      record { view = c.seek.ensures.stays.view ∙ still; cells = c.seek.ensures.stays.cells ∙ (c.turn.ensures.stays.cells ∙ inv.2.cells) },
+      stays_on still c.seek.ensures.stays,
     )
 
 pub returns-then-ended-clause-settles : goal.returns-then-ended-clause-settles

@@ -4,6 +4,7 @@ use Rattle.turns.specs.Loops.{laid}
 use Rattle.turns.specs.Searches.{Seeking, SoughtRow}
 use Rattle.turns.specs.Ticks.{Untouched}
 use Rattle.turns.proofs.Searching.{sought-one, sought-all}
+use Rattle.turns.proofs.Staying.{stays_on}
 use Rattle.turns.proofs.looping.Loop.seek.Goals as goal
 
 pub loop-r-preserved : goal.loop-r-preserved
@@ -27,7 +28,7 @@ loop-r-preserved g c =
           let now = inv.0 says H σ fits lt held h in
           sought-one l p cells c.loop-r.pending stage n r o.0 o.1 k says H σ fits t lt _ _ sought now.0 now.1,
       λ i past d. beyond i past d ∙ inv.1 i past d,
-      record { view = c.seek_row.ensures.stays.view ∙ inv.2.view; cells = c.seek_row.ensures.stays.cells ∙ inv.2.cells },
+      stays_on inv.2 c.seek_row.ensures.stays,
     )
 
 pub returns-clause-sought : goal.returns-clause-sought

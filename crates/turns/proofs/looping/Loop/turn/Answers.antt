@@ -4,6 +4,7 @@ use Rattle.table.specs.Views.{seen}
 use Rattle.turns.specs.Holds.{Midst, Kept, RowMade}
 use Rattle.turns.specs.Loops.{laid}
 use Rattle.turns.proofs.Midturn.{ends}
+use Rattle.turns.proofs.Staying.{stays_on}
 use Rattle.turns.proofs.looping.Loop.turn.Goals as goal
 
 pub loop-r-preserved : goal.loop-r-preserved
@@ -23,7 +24,7 @@ loop-r-preserved g c =
     let kept = subst (λ x. Kept x cells new) same c.make_row.ensures.kept in (
       λ H σ fits h. subst (λ m. Midst l (position_at l) cells σ s j m → Midst l (position_at l) new σ s j (m + 1)) here (made H σ fits) (c.loop-r.invariant.0 H σ fits h),
       λ i past d. kept i past d ∙ c.loop-r.invariant.1 i past d,
-      record { view = c.make_row.ensures.stays.view ∙ stays.view; cells = c.make_row.ensures.stays.cells ∙ stays.cells },
+      stays_on stays c.make_row.ensures.stays,
     )
 
 pub returns-clause-made : goal.returns-clause-made

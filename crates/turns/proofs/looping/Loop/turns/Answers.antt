@@ -2,6 +2,7 @@ use Rattle.std.proofs.Common.{◌≡◌, ap, subst, arith, ◌∙◌}
 use Rattle.table.specs.Views.{seen}
 use Rattle.turns.specs.Holds.{Kept, TurnMade, TurnsMade}
 use Rattle.turns.specs.Loops.{laid}
+use Rattle.turns.proofs.Staying.{stays_on}
 use Rattle.turns.proofs.looping.Loop.turns.Goals as goal
 
 pub loop-turn-preserved : goal.loop-turn-preserved
@@ -16,7 +17,7 @@ loop-turn-preserved g c =
     let kept = subst (λ l. Kept l cells new) same c.turn.ensures.kept in (
       λ H σ fits h. made H σ fits (c.loop-turn.invariant.0 H σ fits h),
       λ i past d. kept i past d ∙ c.loop-turn.invariant.1 i past d,
-      record { view = c.turn.ensures.stays.view ∙ c.loop-turn.invariant.2.view; cells = c.turn.ensures.stays.cells ∙ c.loop-turn.invariant.2.cells },
+      stays_on c.loop-turn.invariant.2 c.turn.ensures.stays,
     )
 
 pub returns-clause-made : goal.returns-clause-made

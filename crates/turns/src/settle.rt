@@ -76,7 +76,7 @@ impl<'v, 'c, V: Kind> Loop<'v, 'c, V> {
         ensures beyond { Untouched (laid self.old) self.old.cells.now self.new.cells.now }
         ensures stays { Stays self.old self.new }
     {
-        // A mark for each number that a row can have, and no list of rows: no heap in a run, and no bound to keep.
+        // A mark for each number that a row can have, so that no bound on the rows is needed.
         let mut pending = [false; 256];
         let order = self.view.order;
         for &r in order {

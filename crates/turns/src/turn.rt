@@ -49,6 +49,7 @@ impl<'v, 'c, V: Kind> Loop<'v, 'c, V> {
         requires row { x < length self.now.view.rows.now }
         ensures { Has (laid self.now) self.now.cells.now x t result }
     {
+        // Taken by itself first, so that it is known how long the cells can be.
         let cells = &*self.cells;
         let place = self.place(x);
         cells[place.start + slot(t, place.depth)]

@@ -50,5 +50,5 @@ keeps-cell k says run past p told r = go (held (laid run) p r) refl run.progress
         let a = g.left in
         let b = p.staged r is in
         g.settled σ (subst (λ n. Fits (laid run).rows k says n σ) (sym same) fits) r is (its-asa (laid run) p r e) (omega arith) t
-    go true e None at = λ H σ under fits low t. absurd (not_none _ H under (rests k says run past at told))
+    go true e None at = λ H σ under fits low t. absurd (not_none _ H under (rests k says run past at told).horizon)
     go false e o at = tt

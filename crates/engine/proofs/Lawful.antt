@@ -13,7 +13,7 @@ use Rattle.table.specs.Layout.{Layout, Planned, place_at}
 use Rattle.turns.specs.Holds.{Settled}
 use Rattle.turns.proofs.Settling.{asa-form, both-sides}
 use Rattle.engine.specs.Law.{Past, Reply, Right, Under, WindowHas, horizon_of, steps_of, left_of}
-use Rattle.engine.specs.Tells.{laid, Goes, Tells}
+use Rattle.engine.specs.Tells.{laid, Goes, Rests, Tells}
 
 pub same_some : (o : Option ℕ) (x y : ℕ) → o ≡ Some x → o ≡ Some y → x ≡ y
 same_some o x y p q = cc
@@ -61,11 +61,11 @@ in-progress None f p e = cc
 module _ {V : Type 0} (k : Meaning V) (says : Says V) (run : Run V) (past : Past V) where
   -- What a run with progress tells.
   pub goes : (p : Progress) → run.progress ≡ Some p → Tells k says run past → Goes k says (laid run) run.cells.now p past
-  goes p at told = subst (λ o. MatchOption o (horizon_of past ≡ None) (λ q. Goes k says (laid run) run.cells.now q past)) at told
+  goes p at told = subst (λ o. MatchOption o (Rests (laid run) past) (λ q. Goes k says (laid run) run.cells.now q past)) at told
 
   -- And one without.
-  pub rests : run.progress ≡ None → Tells k says run past → horizon_of past ≡ None
-  rests at told = subst (λ o. MatchOption o (horizon_of past ≡ None) (λ q. Goes k says (laid run) run.cells.now q past)) at told
+  pub rests : run.progress ≡ None → Tells k says run past → Rests (laid run) past
+  rests at told = subst (λ o. MatchOption o (Rests (laid run) past) (λ q. Goes k says (laid run) run.cells.now q past)) at told
 
 module _ {V : Type 0} (k : Meaning V) (says : Says V) (l : Layout) (cells : List (Reading V)) (p : Progress) (past : Past V) (told : Goes k says l cells p past) where
   under : (a : Reply V) (P : ℕ → Type 0) → P p.horizon → Under past a P
@@ -134,7 +134,7 @@ pub looked-tells : {V : Type 0} (k : Meaning V) (says : Says V) (run : Run V) (p
     Tells k says run (record { call = Look r t; reply = Ok (Seen a) } ∷ past)
 looked-tells k says run past r t a told = go run.progress told
   where
-    go : (o : Option Progress) → MatchOption o (horizon_of past ≡ None) (λ p. Goes k says (laid run) run.cells.now p past) →
-        MatchOption o (horizon_of past ≡ None) (λ p. Goes k says (laid run) run.cells.now p (record { call = Look r t; reply = Ok (Seen a) } ∷ past))
-    go None h = h
+    go : (o : Option Progress) → MatchOption o (Rests (laid run) past) (λ p. Goes k says (laid run) run.cells.now p past) →
+        MatchOption o (Rests (laid run) (record { call = Look r t; reply = Ok (Seen a) } ∷ past)) (λ p. Goes k says (laid run) run.cells.now p (record { call = Look r t; reply = Ok (Seen a) } ∷ past))
+    go None h = record { horizon = h.horizon; left = h.left; made = h.made }
     go (Some p) h = record { horizon = h.horizon; left = h.left; made = h.made; low = h.low; done = h.done; settled = h.settled; holds = h.holds }

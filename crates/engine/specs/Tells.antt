@@ -27,9 +27,15 @@ pub record Goes {V : Type 0} (k : Meaning V) (says : Says V) (l : Layout) (cells
   pub settled : (σ : Sheet V) → Fits l.rows k says p.horizon σ → Settled l cells σ p.settled
   pub holds : (σ : Sheet V) → Fits l.rows k says p.horizon σ → 0 < p.made → Holds l cells σ l.stages (p.made + l.lag)
 
--- The run is at the end of the record: without progress no horizon is in force.
+-- Without progress no horizon is in force, no stage is settled and no tick is made.
+pub record Rests {V : Type 0} (l : Layout) (past : Past V) : Type 0 where
+  pub horizon : horizon_of past ≡ None
+  pub left : left_of l past ≡ l.stages
+  pub made : steps_of past ≡ 0
+
+-- The run is at the end of the record.
 abbrev pub Tells : {V : Type 0} → Meaning V → Says V → Run V → Past V → Type 0
-Tells k says run past = MatchOption run.progress (horizon_of past ≡ None) (λ p. Goes k says (laid run) run.cells.now p past)
+Tells k says run past = MatchOption run.progress (Rests (laid run) past) (λ p. Goes k says (laid run) run.cells.now p past)
 
 -- The reply to a call is right after every record that the run tells, and then the run tells the record with it.
 abbrev pub Lawful : {V : Type 0} → Meaning V → Says V → Run V → Run V → Call → Reply V → Type 0

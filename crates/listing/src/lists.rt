@@ -33,6 +33,8 @@ fn told_kind(recording: &[u8]) -> RecordedKind
     }
 }
 
+// Table, recording and text go along through the three below, and are no struct: each has other types or a work area
+// beside them, and the two that call one another would take it apart at once.
 /// Opens a recording of the kind K, and appends the list of the table's run over it, its gaps filled.
 fn push_recorded<K: Recorded + Shown>(
     table: &Table,

@@ -11,3 +11,4 @@ mod uses;
 
 pub use loading::load;
 pub use refusal::Refusal;
+pub use syntax::Refusal as ReadingRefusal;

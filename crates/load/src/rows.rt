@@ -87,7 +87,8 @@ impl<'a> Layout<'a> {
 }
 
 /// The nodes of all rows: the equations' own, and then the operands'; what is past them is no row.
-// Here and below an array with its count beside it, and no `ArrayVec`: that asks for a default node and a default row.
+// Here and below an array with its count beside it, and no `ArrayVec`: a default node and a default row, which it asks
+// for, would have to be written by hand, for places that nothing reads.
 pub(crate) fn nodes_of(equations: &[Equation], operands: &[Node]) -> [Node; ROWS]
     requires { length equations.now + length operands.now ≤ 64 }
     ensures { take (length equations.now + length operands.now) result ≡ nodes_of equations.now operands.now }

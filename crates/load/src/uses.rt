@@ -8,6 +8,7 @@ use crate::refusal::Refusal;
 use syntax::{Equation, Node, Operand};
 
 /// The place where an operand is a name that no equation defines.
+// The equations go along, here and below, and are no struct: it would hold one slice, and no fact of it is needed.
 fn unknown(equations: &[Equation], operand: Operand) -> Option<usize>
     ensures { result ≡ unknown equations.now operand }
 {

@@ -43,7 +43,7 @@ fn push_recorded<K: Recorded + Shown>(
     out: &mut Text,
 ) -> Result<(), Refusal>
     requires { table.now.schedule.size ≤ length cells.old }
-    ensures { Tried (Runs K.Kind.meaning K.Shown.text (code_of K.Recorded.KIND) table.now.schedule recording.now) out.old out.new result }
+    ensures { Tried (Runs K.Kind.meaning K.Shown.text K.Recorded.code table.now.schedule recording.now) out.old out.new result }
 {
     let source = Hold::over(Recording::<K>::open(recording)?);
     push_run(table, &source, cells, out)?;
@@ -66,7 +66,7 @@ fn push_list<K: Recorded + Shown + Clone>(
     recording: &[u8],
     out: &mut Text,
 ) -> Result<(), AllocError>
-    ensures { OnOk result (Appended (Runs K.Kind.meaning K.Shown.text (code_of K.Recorded.KIND) table.now.schedule recording.now) out.old out.new) }
+    ensures { OnOk result (Appended (Runs K.Kind.meaning K.Shown.text K.Recorded.code table.now.schedule recording.now) out.old out.new) }
 {
     let mut cells = vec![in heap; Reading::<K>::Err(UNREAD); table.schedule.size]?;
     let tried = push_recorded(table, recording, &mut cells, out);

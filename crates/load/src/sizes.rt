@@ -10,14 +10,10 @@ use syntax::Equation;
 pub(crate) const ROWS: usize = 64;
 
 /// Refuses an equation too many, at its place.
-// By a match: no method of Option makes an error of what is there.
 pub(crate) fn check_count(excess: Option<usize>) -> Result<(), Refusal>
     ensures { result ≡ few excess }
 {
-    match excess {
-        Some(place) => Err(Refusal::TooMany(place)),
-        None => Ok(()),
-    }
+    excess.map_or(Ok(()), |place| Err(Refusal::TooMany(place)))
 }
 
 /// The number of operand rows. Refuses the equation in which a row is one too many.

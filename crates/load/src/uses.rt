@@ -55,12 +55,8 @@ fn first_unknown(equations: &[Equation], nodes: &[Node]) -> Option<usize>
 }
 
 /// Refuses the earliest use of a name that no equation defines.
-// By a match: no method of Option makes an error of what is there.
 pub(crate) fn check_uses(equations: &[Equation], nodes: &[Node]) -> Result<(), Refusal>
     ensures { result ≡ used equations.now nodes.now }
 {
-    match first_unknown(equations, nodes) {
-        Some(place) => Err(Refusal::Undefined(place)),
-        None => Ok(()),
-    }
+    first_unknown(equations, nodes).map_or(Ok(()), |place| Err(Refusal::Undefined(place)))
 }

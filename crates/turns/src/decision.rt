@@ -11,10 +11,7 @@ use reading::{Fault, FaultNumber, Reading, Row};
 pub(crate) fn is<V: Kind>(b: bool, reading: &Reading<V>) -> bool
     ensures { result ≡ is V.Kind.meaning b reading.now }
 {
-    match reading {
-        Ok(v) => (*v).told() == Some(b),
-        Err(_) => false,
-    }
+    (*reading).is_ok_and(|v| v.told() == Some(b))
 }
 
 /// A fault that is born in a row at a tick.

@@ -36,6 +36,7 @@ fn cell_of(view: &View<'_>, row: u8) -> Option<usize>
 
 impl<'t, 'c, V: Kind> Run<'t, 'c, V> {
     /// How far the run has come under the horizon in force.
+    // A copy, which each call changes and puts back. Tried by `as_mut`: after the `?` it is not known that the run stayed.
     fn progress(&self) -> Result<Progress, Refusal>
         ensures { result ≡ ok_or self.now.progress NoHorizon }
     {

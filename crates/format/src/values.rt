@@ -10,7 +10,7 @@ use reading::{Fault, Reading};
 use text::{Field, Text};
 
 /// What is printed of a value. `text` gives its bytes, and they are what is appended.
-// Not `Display`, which was tried: of a text whose item's `fmt` gave up nothing is known, so that it could not be promised
+// Not `Display`, which was tried: of a text whose item's `fmt` gave up, nothing is known, so that it could not be promised
 // that nothing is lost where there is room.
 pub trait Shown {
     ghost text: { Self → List ℕ };

@@ -36,6 +36,7 @@ pub enum KindFault {
     OutOfRange,
 }
 
+// By a match of its own, here and for a source's faults: the two enums have other cases.
 impl From<KindFault> for FaultNumber {
     ghost from_gives = { λ f r. r ≡ of_kind f };
 

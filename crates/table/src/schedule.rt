@@ -5,7 +5,7 @@ use graph::Plan;
 use reading::Row;
 
 /// The schedule of a table.
-// Arrays with a count, and none of structs: the type is Copy and takes no heap, and a view lends each of them as a slice.
+// Arrays with a count, since the type is Copy and takes no heap; one array each, since a view lends each as a slice.
 #[derive(Clone, Copy, Drop)]
 pub struct Schedule {
     /// The rows, of which the first `count` belong to the table.

@@ -15,6 +15,7 @@ pub(crate) fn is<V: Kind>(b: bool, reading: &Reading<V>) -> bool
 }
 
 /// A fault that is born in a row at a tick.
+// Row and tick go apart, here and in the loop: a struct of the two would hold no fact, and be made at each call.
 pub(crate) fn fault<V>(number: FaultNumber, row: u8, tick: u32) -> Reading<V>
     ensures { result ≡ born number row tick }
 {

@@ -88,6 +88,7 @@ impl<'v, 'c, V: Kind> Loop<'v, 'c, V> {
         }
     }
 
+    // No Option, here and below: `decide` takes three readings, and looks at none that the row has no operand for.
     /// The second operand of row `r` at tick `t`, or any reading where it has none.
     fn right(&self, row: Row, r: u8, t: u32) -> Reading<V>
         requires row { (r < length self.now.view.rows.now) × (row ≡ row_at self.now.view.rows.now r) }

@@ -1,32 +1,30 @@
 -- One text after another.
-use Rattle.std.proofs.Common.{◌≡◌, ℕ, List, [], ◌++◌, length, Ok, Err, Result, sym, ap, ◌∙◌, subst, append_assoc, append-nil, arith, length-append}
-use Rattle.std.specs.Prelude.{String}
-use Rattle.std.specs.declared.alloc.AllocError.{AllocError}
-use Rattle.std.specs.declared.alloc.Global.{Global}
+use Rattle.std.proofs.Common.{◌≡◌, ℕ, ◌+◌, ◌≤◌, List, [], ◌++◌, length, sym, ap, ◌∙◌, subst, append_assoc, append-nil, arith, length-append}
 use Rattle.text.specs.declared.text.Text.{Text}
-use Rattle.text.specs.Pushed.{Pushed, Grown, bytes_of}
-
-grown_then : (a b c : Result (String Global) AllocError) (xs ys : List ℕ) → Grown a b xs → Grown b c ys → Grown a c (xs ++ ys)
-grown_then (Ok s) (Ok t) (Ok u) xs ys p q = (q.0 ∙ ap (λ (l : List ℕ). l ++ ys) p.0 ∙ append_assoc (bytes_of s) xs ys, omega (arith, p.1, q.1))
-grown_then (Ok s) (Ok t) (Err e) xs ys p q =
-    let sum = length-append xs ys in
-    let grown = ap length p.0 ∙ length-append (bytes_of s) xs in
-    omega (arith, sum, grown, p.1, q)
-grown_then (Ok s) (Err e) (Ok u) xs ys p q = absurd q
-grown_then (Ok s) (Err e) (Err d) xs ys p q = let sum = length-append xs ys in omega (arith, sum, p)
-grown_then (Err e) (Ok t) c xs ys p q = absurd p
-grown_then (Err e) (Err d) (Ok u) xs ys p q = absurd q
-grown_then (Err e) (Err d) (Err f) xs ys p q = tt
+use Rattle.text.specs.Pushed.{Pushed, bytes_of, room_of}
 
 pub pushed_then : (a b c : Text) (xs ys : List ℕ) → Pushed a b xs → Pushed b c ys → Pushed a c (xs ++ ys)
-pushed_then a b c xs ys p q = record { grown = grown_then a.text b.text c.text xs ys p.grown q.grown }
+pushed_then a b c xs ys p q = record {
+  bytes = λ h.
+      let y = q.bytes h in
+      let x = p.bytes y.0 in
+      (x.0, y.1 ∙ ap (λ l. l ++ ys) x.1 ∙ append_assoc (bytes_of a) xs ys);
+  room = λ h fits.
+      let sum = length-append xs ys in
+      let half : length (bytes_of a) + length xs ≤ room_of a = omega (arith, sum) in
+      let kept = p.room h half in
+      let grown = ap length (p.bytes kept).1 ∙ length-append (bytes_of a) xs in
+      let rest : length (bytes_of b) + length ys ≤ room_of b = omega (arith, sum, grown, p.capacity) in
+      q.room kept rest;
+  capacity = omega (arith, p.capacity, q.capacity);
+}
 
 pub pushed-is : (a b : Text) (xs ys : List ℕ) → xs ≡ ys → Pushed a b xs → Pushed a b ys
 pushed-is a b xs ys e = subst (λ l. Pushed a b l) e
 
-grown_none : (a : Result (String Global) AllocError) → Grown a a []
-grown_none (Ok s) = (sym (append-nil (bytes_of s)), omega arith)
-grown_none (Err e) = tt
-
 pub pushed_none : (a : Text) → Pushed a a []
-pushed_none a = record { grown = grown_none a.text }
+pushed_none a = record {
+  bytes = λ h. (h, sym (append-nil (bytes_of a)));
+  room = λ h fits. h;
+  capacity = omega arith;
+}

@@ -34,3 +34,28 @@ impl Text {
         self.push_str(str::from_utf8(&digits).unwrap());
     }
 }
+
+#[cfg(test)]
+mod tests {
+    use super::*;
+    use std::alloc::AllocError;
+
+    /// No clause says that there is memory: with some, nothing is lost. The digits are those that Python prints.
+    #[test]
+    fn keeps_numbers(rt: HostRuntime) -> Result<(), AllocError> {
+        let mut text = Text::new(rt.alloc());
+        text.push_number(-2147483648i32);
+        text.push_str(" ");
+        text.push_number(18446744073709551615u64);
+        text.push_str(" ");
+        text.push_number(0u8);
+        text.push_str(" ");
+        text.push_hex(9218868437227405311);
+        let whole = text.finish()?;
+        assert_eq!(rt;
+            whole.as_str(),
+            "-2147483648 18446744073709551615 0 7fefffffffffffff"
+        );
+        Ok(())
+    }
+}

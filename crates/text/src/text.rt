@@ -1,25 +1,26 @@
 //! A text that grows at its end.
 
-ghost use Rattle.std.specs.Prelude.{◌≡◌, []};
-ghost use Rattle.std.specs.Result.{IsOkAnd};
-ghost use Rattle.text.specs.Pushed.{Pushed, bytes_of};
+ghost use Rattle.std.specs.Prelude.{◌≡◌, [], Ok};
+ghost use Rattle.text.specs.Pushed.{Pushed, bytes_of, whole_of};
 
 use std::alloc::{AllocError, Global};
 
-/// A text that is appended to, or the error of the append for which there was no memory. So only its end has to be
-/// asked for success.
+/// A text that is appended to, and whether there was memory for each append. So only its end has to be asked for success.
 #[derive(Drop)]
 pub struct Text {
-    pub(crate) text: Result<String, AllocError>,
+    pub(crate) text: String,
+    pub(crate) kept: Result<(), AllocError>,
 }
 
 impl Text {
     /// An empty text.
     pub fn new(heap: Global) -> Text
-        ensures { IsOkAnd result.text (λ s. bytes_of s ≡ []) }
+        ensures kept { result.kept ≡ Ok tt }
+        ensures bytes { bytes_of result ≡ [] }
     {
         Text {
-            text: Ok(String::new(heap)),
+            text: String::new(heap),
+            kept: Ok(()),
         }
     }
 
@@ -27,17 +28,15 @@ impl Text {
     pub fn push_str(&mut self, s: &str)
         ensures { Pushed self.old self.new s.now }
     {
-        if let Ok(text) = &mut self.text
-            && let Err(error) = text.push_str(s)
-        {
-            *self = Text { text: Err(error) };
+        if self.kept.is_ok() {
+            self.kept = self.text.push_str(s);
         }
     }
 
     /// The whole text, unless memory ran out.
     pub fn finish(self) -> Result<String, AllocError>
-        ensures { result ≡ self.text }
+        ensures { result ≡ whole_of self }
     {
-        self.text
+        self.kept.map(|_| self.text)
     }
 }

@@ -59,7 +59,8 @@ impl Number for Integer {
             Arithmetic::Subtract => Integer::try_from(a - b),
             Arithmetic::Multiply => Integer::try_from(a * b),
             Arithmetic::Divide if b == 0 => Err(KindFault::ZeroDivisor),
-            Arithmetic::Divide => Integer::try_from(a / b),
+            // Of the kept numbers and not of a and b: a division of 64 bits takes longer.
+            Arithmetic::Divide => Integer::try_from(i64::from(left.value / right.value)),
         }
     }
 

@@ -1,8 +1,7 @@
 -- What the runs, a filled name and the digits of a literal say. Assumes nothing.
 use Rattle.std.proofs.Common.{◌≡◌, ℕ, ◌+◌, ◌-◌, ◌*◌, ◌<◌, ◌≤◌, Bool, true, List, [], ◌∷◌, ◌++◌, map, length, get_or, take, drop, replicate, None, fold, sym, refl, ap, ◌∙◌, zero, suc, arith, cond, false, Option, Some}
 use Rattle.std.proofs.lemmas.Bool.{lt-leb, cond-false}
-use Rattle.std.proofs.lemmas.Grind.{same_number_lists}
-use Rattle.std.proofs.lemmas.List.{length-take, length-map, length-append, get_or-take, get_or-map, length-replicate, map-append, drop-replicate}
+use Rattle.std.proofs.lemmas.List.{length-take, length-map, get_or-take, map-append, drop-replicate}
 use Rattle.std.proofs.lemmas.List.Sums.{prefix_len-drop_yes, prefix_len_passes, fold_more}
 use Rattle.std.specs.Borrow.{Bor}
 use Rattle.std.specs.Prelude.{find, bytes_eq, option_map}
@@ -31,13 +30,8 @@ zeros_stay zero = refl
 zeros_stay (suc n) = ap (λ xs. 0 ∷ xs) (zeros_stay n)
 
 -- The small letters of a word and the zeros after it, in small letters too.
-pub filled_is : (xs ys : List ℕ) → length xs ≤ longest → length ys ≡ longest → ((k : ℕ) → k < longest → get_or ys k 0 ≡ to_ascii_lowercase (get_or (xs ++ drop (length xs) (replicate longest 0)) k 0)) → ys ≡ filled (map to_ascii_lowercase xs)
-filled_is xs ys h l each =
-    let zs = xs ++ drop (length xs) (replicate longest 0) in
-    let n : length ys ≡ length (map to_ascii_lowercase zs) = simp (length-map, length-append, drop-replicate, length-replicate) (omega arith) in
-    let m : length zs ≡ longest = simp (length-append, drop-replicate, length-replicate) (omega arith) in
-    same_number_lists ys (map to_ascii_lowercase zs) n (λ k i. each k (omega arith) ∙ sym (get_or-map to_ascii_lowercase zs k 0 0 (omega arith)))
-    ∙ simp (map-append, drop-replicate, zeros_stay, length-map)
+pub filled_is : (xs : List ℕ) → map to_ascii_lowercase (xs ++ drop (length xs) (replicate longest 0)) ≡ filled (map to_ascii_lowercase xs)
+filled_is xs = simp (map-append, drop-replicate, zeros_stay, length-map)
 
 abbrev pub worth : ℕ → ℕ → ℕ
 worth v b = v * 10 + (b - 48)

@@ -174,7 +174,8 @@ fn filled(word: &[u8]) -> [u8; LONGEST]
 {
     let mut bytes = [0; LONGEST];
     bytes[..word.len()].copy_from_slice(word);
-    bytes.map(|b| b.to_ascii_lowercase())
+    bytes.make_ascii_lowercase();
+    bytes
 }
 
 // A name or a word of the language, which starts at `at`.

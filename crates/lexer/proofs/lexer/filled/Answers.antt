@@ -1,6 +1,6 @@
-use Rattle.std.proofs.Common.{rules}
+use Rattle.std.proofs.Common.{◌∙◌}
 use Rattle.lexer.proofs.Runs.{filled_is}
 use Rattle.lexer.proofs.lexer.filled.Goals as goal
 
 pub returns : goal.returns
-returns c = filled_is c.args.word.now c.map.result c.requires (search rules) (λ k i. let r = c.map.ensures.items.at k 0 0 i in search (rules, r))
+returns c = c.make_ascii_lowercase.ensures.after ∙ rw c.copy_from_slice.ensures.after (filled_is c.args.word.now)

@@ -130,11 +130,11 @@ impl<'v, 'c, V: Kind> Loop<'v, 'c, V> {
         let mut pending = self.begin(stage);
         self.turns(source, lower, lag);
         for t in 0..horizon {
+            self.turn(source, lower, t + lag);
+            self.seek(stage, t, &mut pending);
             if ended(&pending) {
                 return;
             }
-            self.turn(source, lower, t + lag);
-            self.seek(stage, t, &mut pending);
         }
     }
 }

@@ -1,11 +1,14 @@
 use Rattle.std.proofs.Common.{◌≡◌, ◌+◌, ◌-◌, refl, ◌∙◌, ap, subst, inl, inr, arith}
 use Rattle.table.specs.Views.{seen}
-use Rattle.turns.specs.Holds.{Holds, Kept, TurnMade, TurnsMade}
-use Rattle.turns.specs.Loops.{laid}
-use Rattle.turns.specs.Searches.{SoughtAll}
+use Rattle.theory.specs.Rule.{Sheet, Fits}
+use Rattle.turns.specs.Holds.{Holds, Settled, Kept, TurnMade, TurnsMade}
+use Rattle.turns.specs.Loops.{laid, Stays}
+use Rattle.turns.specs.Searches.{Seeking, SoughtAll}
 use Rattle.turns.specs.Ticks.{Untouched}
 use Rattle.turns.proofs.Searching.{all_settled, seeking-kept, sought-turn}
 use Rattle.turns.proofs.Staying.{stays_on}
+use Rattle.turns.proofs.looping.Loop.search.Given.{Over}
+use Rattle.turns.proofs.looping.Loop.search.Goals.{After-ended}
 use Rattle.turns.proofs.looping.Loop.search.Goals as goal
 
 pub loop-t-init : goal.loop-t-init
@@ -33,8 +36,14 @@ loop-t-init g c =
       stays_on begun.stays c.turns.ensures.stays,
     )
 
-pub loop-t-preserved : goal.loop-t-preserved
-loop-t-preserved g c =
+-- What is known once the tick was sought.
+sought : (g : Over) (c : After-ended g) →
+    ((σ : Sheet g.row.V.Denot) → Fits (laid c.args.self.now).rows g.V.Kind.meaning (g.S.Source.meaning c.args.source.now).says c.args.horizon σ →
+    Settled (laid c.args.self.now) c.args.self.now.cells.now σ (c.args.stage.value - 1) →
+    Holds (laid c.args.self.now) c.seek.new.self.cells.now σ (c.args.stage.value - 1) (c.loop-t.t + 1 + (laid c.args.self.now).lag) ×
+    Seeking (laid c.args.self.now) g.V.Kind.meaning c.seek.new.self.cells.now σ c.seek.new.pending c.args.stage.value 0 (c.loop-t.t + 1)) ×
+    Untouched (laid c.args.self.now) c.args.self.now.cells.now c.seek.new.self.cells.now × Stays c.args.self.now c.seek.new.self
+sought g c =
     let lap = c.args.self.now in
     let l = laid lap in
     let p = lap.view.planned in
@@ -62,15 +71,18 @@ loop-t-preserved g c =
       stays_on still c.seek.ensures.stays,
     )
 
+pub loop-t-preserved : goal.loop-t-preserved
+loop-t-preserved g c = sought g c.before
+
 pub returns-then-ended-clause-settles : goal.returns-then-ended-clause-settles
 returns-then-ended-clause-settles g c =
     let lap = c.args.self.now in
-    let inv = c.loop-t.invariant in
+    let next = sought g c.before in
     record {
       settled = λ σ fits set.
-          let now = inv.0 σ fits set in
-          all_settled (laid lap) lap.view.planned g.V.Kind.meaning (g.S.Source.meaning c.args.source.now).says c.args.horizon σ fits c.loop-t.self.cells.now c.loop-t.pending _ _ now.0.settled now.1 (inl (c.if-ended.ensures refl));
-      beyond = inv.1;
+          let now = next.0 σ fits set in
+          all_settled (laid lap) lap.view.planned g.V.Kind.meaning (g.S.Source.meaning c.args.source.now).says c.args.horizon σ fits c.seek.new.self.cells.now c.seek.new.pending _ _ now.0.settled now.1 (inl (c.if-ended.ensures refl));
+      beyond = next.1;
     }
 
 pub returns-clause-settles : goal.returns-clause-settles

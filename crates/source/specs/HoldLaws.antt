@@ -6,6 +6,11 @@ use Rattle.reading.specs.declared.faults.SourceFault.TheVariants.{Ended, Gap, Ou
 use Rattle.source.specs.Sources.{Meaning, Lawful}
 use Rattle.source.specs.Holds.{unless_gap, latest, held}
 
+-- One tick further back.
+pub latest-step : {V : Type 0} (said : ℕ → Result V SourceFault) (n : ℕ) → 0 < n → latest said n ≡ unless_gap (said (n - 1)) (latest said (n - 1))
+latest-step said zero h = absurd (omega arith)
+latest-step said (suc n) h = ap (λ (k : ℕ). unless_gap (said k) (latest said k)) (omega arith)
+
 ended : {V : Type 0} (r s : Result V SourceFault) → unless_gap r s ≡ Err Ended → (r ≡ Err Ended) ⊎ (s ≡ Err Ended)
 ended (Ok v) s e = inl e
 ended (Err Ended) s e = inl refl
